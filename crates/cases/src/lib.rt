@@ -1,0 +1,1 @@
+// The starred cases of the specification, proved from the definitions; no code.

@@ -1,0 +1,2 @@
+pub mod Congruence
+pub mod Sum

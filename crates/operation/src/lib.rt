@@ -1,0 +1,26 @@
+// The seven operations, a step, and an error.
+
+// Each case has the operands of its line in the table of operations: q, c and t are qudits, u is a factor.
+pub enum Operation {
+    Fourier { q: usize },
+    PhaseGate { q: usize },
+    Sum { c: usize, t: usize },
+    Cz { c: usize, t: usize },
+    Swap { c: usize, t: usize },
+    Multiplier { q: usize, u: u8 },
+    Measure { q: usize },
+}
+
+// An operation together with its index in the book.
+pub struct Step {
+    pub index: usize,
+    pub operation: Operation,
+}
+
+// X^p Z^s on a qudit, before the operation whose index is `place`.
+pub struct WeylError {
+    pub place: usize,
+    pub qudit: usize,
+    pub p: u8,
+    pub s: u8,
+}

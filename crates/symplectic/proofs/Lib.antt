@@ -1,0 +1,4 @@
+pub mod Triangle
+pub mod Pairing
+pub mod Map
+pub mod Gates

@@ -1,0 +1,1 @@
+// Laws; no code.
