@@ -1,12 +1,22 @@
 -- The starred cases, computed from the definitions. Rows are (a, b, r); n = 1 and d = 3 unless said.
 -- Assumes nothing.
 use mathlib.Core.Path.{_≡_, refl}
-use mathlib.Core.List.{[], _∷_}
+use mathlib.Core.List.{List, [], _∷_}
+use Prim.Native.Nat.{ℕ}
 use Rattle.modular.specs.Dimension.{inverse, inverseBelow}
 use Rattle.row.specs.Row.{tab, rowOf, dot, product, power}
 use Rattle.operation.specs.declared.Operation.the-variants.{Fourier, PhaseGate, Cz, Multiplier}
-use Rattle.operation.specs.Gate.{gatePowers, gatePhase, gateRow}
+use Rattle.operation.specs.Gate.{gatePowers, gatePhase, gateRow, gateRows}
 use Rattle.operation.specs.Error.{errorRow}
+use Rattle.row.specs.Generators.{zWith}
+use Rattle.weyl.specs.Scalar.{scalar}
+use Rattle.search.specs.Search.{all, firstNot}
+use Rattle.tableau.specs.Tableau.{part, put, eachRow}
+use Rattle.layer.specs.Layer.{zeroTableau}
+use Rattle.look.specs.declared.Look.the-variants.{Free, Certain}
+use Rattle.look.specs.declared.Looked.the-variants.{Seen}
+use Rattle.look.specs.Look.{pivotOf, combination, weighted, isZ, outcomeOf, look}
+use Rattle.collapse.specs.Collapse.{collapseRow, collapse}
 
 -- ★1 Fourier: (1,1,0) gives (2,1,2).
 fourier : gateRow 3 1 (Fourier 0) (1 ∷ 1 ∷ 0 ∷ []) ≡ 2 ∷ 1 ∷ 2 ∷ []
@@ -50,3 +60,23 @@ cubed = refl
 error : errorRow 3 1 (record { place = 0; qudit = 0; p = 1; s = 2 }) (1 ∷ 1 ∷ 0 ∷ []) ≡ 1 ∷ 1 ∷ 1 ∷ []
 unfolding errorRow
 error = refl
+
+-- ★8 Zero tableau, measure with choice 2: certain 0.
+abbrev zeros : List ℕ
+zeros = zeroTableau 1 (9 ∷ 9 ∷ 9 ∷ 9 ∷ 9 ∷ 9 ∷ [])
+
+certain : look 3 1 zeros 0 ≡ Seen (Certain 0)
+unfolding look pivotOf firstNot weighted combination scalar outcomeOf isZ all zeroTableau eachRow part put product power rowOf tab dot
+certain = refl
+
+-- ★9 Fourier, then measure with choice 2: free 2, rows (1,0,0) and (0,1,1).
+abbrev turned : List ℕ
+turned = gateRows 3 1 (Fourier 0) zeros
+
+free : look 3 1 turned 0 ≡ Seen (Free 0)
+unfolding look pivotOf firstNot zeroTableau eachRow part put rowOf tab gateRow gatePowers gatePhase
+free = refl
+
+rows : collapse 3 1 0 0 2 turned ≡ 1 ∷ 0 ∷ 0 ∷ 0 ∷ 1 ∷ 1 ∷ []
+unfolding collapse collapseRow zWith inverse inverseBelow zeroTableau eachRow part put product power rowOf tab dot gateRow gatePowers gatePhase
+rows = refl

@@ -1,0 +1,6 @@
+-- What other proofs use; the bytes of an operation; worked cases.
+pub mod Search
+pub mod Sound
+pub mod Steps
+pub mod Spelling
+pub mod Cases

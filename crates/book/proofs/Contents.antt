@@ -1,0 +1,82 @@
+-- What an accepted book has passed, and what its table of contents says of its bodies.
+-- Assumes nothing.
+use mathlib.Core.Path.{_≡_}
+use mathlib.Core.Bool.{true, and-eq-true-iff}
+use mathlib.Core.List.{List}
+use Prim.Native.Nat.{ℕ, _+_, _≤_}
+use native.Mathlib.Omega.{arith}
+use lib.Dec.{eqb, leb}
+use lib.ListN.{length, getD}
+use borrow.Author.Tests.{eqb-true, leb-true}
+use Rattle.modular.specs.Dimension.{listed}
+use Rattle.tableau.specs.Tableau.{sized}
+use Rattle.body.specs.declared.Place.the-variants.{Nowhere}
+use Rattle.body.specs.Body.{Told, accepted, readBodies}
+use Rattle.body.proofs.Search.{met, some-place}
+use Rattle.body.proofs.Sound.{NoRefusal, nowhere}
+use Rattle.book.specs.Book.{headed, dimensionOf, quditsOf, offsetOf, endOf, partOf, entryFits, badContents, readBook, ofKind, bodyOf}
+
+pub record Passed (s : List ℕ) (t : Told) : Type 0 where
+  pub head : headed s ≡ true
+  pub dimension : listed (dimensionOf s) ≡ true
+  pub qudits : sized (quditsOf s) ≡ true
+  pub contents : badContents s ≡ Nowhere
+  pub bodies : readBodies (dimensionOf s) (quditsOf s) (partOf s 4) (partOf s 10) (partOf s 16) ≡ t
+
+pub all-passed : {t : Told} (s : List ℕ) → NoRefusal t → readBook s ≡ t → Passed s t
+unfolding readBook
+all-passed s good e =
+    let p1 = met (headed s) (good 1 0) e in
+    let p2 = met (listed (dimensionOf s)) (good 2 0) (p1 .1) in
+    let p3 = met (sized (quditsOf s)) (good 3 0) (p2 .1) in
+    let p4 = nowhere 4 (badContents s) _ good (p3 .1) in
+    record { head = p1 .0; dimension = p2 .0; qudits = p3 .0; contents = p4 .0; bodies = p4 .1 }
+
+-- a headed book has at least 22 bytes
+pub head-room : (s : List ℕ) → headed s ≡ true → 22 ≤ length s
+unfolding headed
+head-room s e = leb-true _ _ (and-eq-true-iff (leb 22 (length s)) _ .0 e .0)
+
+-- each body begins where the last one ended, and the book ends with the third
+record Laid (s : List ℕ) : Type 0 where
+  pub first : offsetOf s 4 ≡ 22
+  pub second : offsetOf s 10 ≡ endOf s 4
+  pub third : offsetOf s 16 ≡ endOf s 10
+  pub ends : endOf s 16 ≡ length s
+
+begins : (s : List ℕ) (at kind start size most : ℕ) → entryFits s at kind start size most ≡ true → offsetOf s at ≡ start
+unfolding entryFits
+begins s at kind start size most e =
+    let e1 = and-eq-true-iff (eqb (getD s at 0) kind) _ .0 e .1 in
+    let e2 = and-eq-true-iff (eqb (getD s (at + 1) 0) 0) _ .0 e1 .1 in
+    eqb-true _ _ (and-eq-true-iff (eqb (offsetOf s at) start) _ .0 e2 .0)
+
+laid : (s : List ℕ) → badContents s ≡ Nowhere → Laid s
+unfolding badContents
+laid s e =
+    let m0 = met (entryFits s 4 1 22 4 4096) some-place e in
+    let m1 = met (entryFits s 10 2 (endOf s 4) 5 2048) some-place (m0 .1) in
+    let m2 = met (entryFits s 16 3 (endOf s 10) 1 4096) some-place (m1 .1) in
+    let m3 = met (eqb (endOf s 16) (length s)) some-place (m2 .1) in
+    record {
+      first = begins s 4 1 22 4 4096 (m0 .0);
+      second = begins s 10 2 (endOf s 4) 5 2048 (m1 .0);
+      third = begins s 16 3 (endOf s 10) 1 4096 (m2 .0);
+      ends = eqb-true _ _ (m3 .0);
+    }
+
+-- the header and the bodies lie within the book
+pub record Inside (s : List ℕ) : Type 0 where
+  pub room : 22 ≤ length s
+  pub first : endOf s 4 ≤ length s
+  pub second : endOf s 10 ≤ length s
+  pub third : endOf s 16 ≤ length s
+
+pub inside : (s : List ℕ) → headed s ≡ true → badContents s ≡ Nowhere → Inside s
+inside s h e = let l = laid s e in record { room = head-room s h; first = omega arith; second = omega arith; third = omega arith }
+
+-- an accepted book's bodies are handed back by their kinds
+pub by-kind : {d n operations errors choices : ℕ} (s : List ℕ) (kind : ℕ) → readBook s ≡ accepted d n operations errors choices
+    → bodyOf s kind ≡ ofKind s kind
+unfolding bodyOf
+by-kind s kind e = rw e

@@ -1,0 +1,133 @@
+-- An accepted book's numbers are those of its lists of operations, errors and choices, and the lists are what 2, 3 and 5 to 7
+-- let through. Assumes nothing.
+use mathlib.Core.Path.{_≡_, refl, sym, ap, subst, _∙_}
+use mathlib.Core.Logic.{⊎-elim}
+use mathlib.Core.Bool.{true, _&&_, false≢true, and-eq-true-iff}
+use mathlib.Core.List.{List, [], _∷_}
+use Prim.Native.Nat.{ℕ, zero, suc, _+_, _*_, _/_, _<_, _≤_}
+use native.Mathlib.Nat.{eq-or-lt-of-le, le-refl, le-trans, le-of-suc-le-suc}
+use native.Mathlib.Omega.{arith}
+use lib.Dec.{eqb, leb}
+use lib.ListN.{length, getD}
+use borrow.Author.Tests.{leb-true, ltb-true}
+use Rattle.row.proofs.Fill.{tab-length, tab-get}
+use Rattle.operation.specs.declared.Operation.{Operation}
+use Rattle.operation.specs.declared.Operation.the-variants.{Fourier, PhaseGate, Sum, Cz, Swap, Multiplier, Measure}
+use Rattle.operation.specs.Operation.{allowed}
+use Rattle.operation.specs.Error.{errorAllowed}
+use Rattle.circuit.specs.Circuit.{opAt, errAt, tally, measured, Accepted}
+use Rattle.body.specs.declared.Decoded.{Decoded}
+use Rattle.body.specs.declared.Decoded.the-variants.{Good, Bad}
+use Rattle.body.specs.Entry.{bytesOf, operationAt, errorAt}
+use Rattle.body.specs.Body.{isGood, oneIf, measurements, placeBefore, goodError, Told, refused, accepted}
+use Rattle.body.proofs.Sound.{no-refusal, Sound, all-sound, each-operation, each-error, one-each, each-choice}
+use Rattle.body.proofs.Spelling.{spelled}
+use Rattle.book.specs.Book.{dimensionOf, quditsOf, partOf, bodyOf}
+use Rattle.book.specs.Decoded.{operationIn, operationOf, operationsOf, errorsOf, Means, AcceptedMeans}
+use Rattle.book.proofs.Contents.{all-passed, by-kind}
+
+is-in : (x : Decoded) → isGood x ≡ true → x ≡ Good (operationIn x)
+is-in (Good op) e = refl
+is-in Bad e = absurd (false≢true e)
+
+-- 1 for the code 6, else 0
+code-tally : (op : Operation) → tally op ≡ oneIf (eqb (getD (bytesOf op) 0 0) 6)
+unfolding bytesOf
+code-tally (Fourier q) = refl
+code-tally (PhaseGate q) = refl
+code-tally (Sum c t) = refl
+code-tally (Cz c t) = refl
+code-tally (Swap c t) = refl
+code-tally (Multiplier q u) = refl
+code-tally (Measure q) = refl
+
+-- the four bytes of entry k
+abbrev entryOf : List ℕ → ℕ → List ℕ
+entryOf os k = getD os (4 * k) 0 ∷ getD os (4 * k + 1) 0 ∷ getD os (4 * k + 2) 0 ∷ getD os (4 * k + 3) 0 ∷ []
+
+module _ {d n : ℕ} {os es cs : List ℕ} {t : Told} (sound : Sound d n os es cs t) where
+  -- the operations
+  op-count : length (operationsOf d n os) ≡ length os / 4
+  unfolding operationsOf
+  op-count = tab-length (operationOf d n os) (length os / 4)
+
+  op-at : (k : ℕ) → k < length os / 4 → opAt (operationsOf d n os) k ≡ operationOf d n os k
+  unfolding operationsOf
+  op-at k h = tab-get (operationOf d n os) (length os / 4) k (Measure 0) h
+
+  -- entry k is allowed, and its bytes are its operation's
+  entry : (k : ℕ) → k < length os / 4 → (allowed d n (operationOf d n os k) ≡ true) × (entryOf os k ≡ bytesOf (operationOf d n os k))
+  entry k h = spelled d n _ _ _ _ (operationOf d n os k) .0 (is-in (operationAt d n os k) (each-operation sound k h))
+
+  op-tally : (k : ℕ) → k < length os / 4 → tally (operationOf d n os k) ≡ oneIf (eqb (getD os (4 * k) 0) 6)
+  op-tally k h = code-tally (operationOf d n os k) ∙ ap (λ (bytes : List ℕ). oneIf (eqb (getD bytes 0 0) 6)) (sym (entry k h .1))
+
+  op-measured : (k : ℕ) → k ≤ length os / 4 → measured (operationsOf d n os) k ≡ measurements os k
+  unfolding measured measurements
+  op-measured zero h = refl
+  op-measured (suc k) h = rw (op-measured k (omega arith), op-at k h, op-tally k h)
+
+  -- the errors
+  error-count : length (errorsOf es) ≡ length es / 5
+  unfolding errorsOf
+  error-count = tab-length (errorAt es) (length es / 5)
+
+  error-at : (j : ℕ) → j < length es / 5 → errAt (errorsOf es) j ≡ errorAt es j
+  unfolding errorsOf
+  error-at j h = tab-get (errorAt es) (length es / 5) j _ h
+
+  fits : (j : ℕ) → j < length es / 5 →
+      (errorAt es j .place ≤ length os / 4) × (placeBefore es j ≤ errorAt es j .place) × (errorAllowed d n (errorAt es j) ≡ true)
+  unfolding goodError
+  fits j h =
+      let e = errorAt es j in
+      let a = and-eq-true-iff (leb (e .place) (length os / 4)) (leb (placeBefore es j) (e .place) && errorAllowed d n e) .0 (each-error sound j h) in
+      let b = and-eq-true-iff (leb (placeBefore es j) (e .place)) (errorAllowed d n e) .0 (a .1) in
+      (leb-true _ _ (a .0), leb-true _ _ (b .0), b .1)
+
+  ordered : (i j : ℕ) → i ≤ j → j < length es / 5 → errorAt es i .place ≤ errorAt es j .place
+  ordered i zero h l = let e : i ≡ 0 = omega arith in rw e (le-refl _)
+  ordered i (suc j) h l =
+      ⊎-elim (λ (e : i ≡ suc j). rw e (le-refl _)) (λ (b : i < suc j). le-trans (ordered i j (le-of-suc-le-suc b) (omega arith)) (fits (suc j) l .1))
+      (eq-or-lt-of-le h)
+
+  lists : Accepted d n (operationsOf d n os) (errorsOf es) cs
+  lists =
+      record {
+        operations = λ k h. let l : k < length os / 4 = rw op-count at h in rw (op-at k l) (entry k l .0);
+        strikes = λ j h. let l : j < length es / 5 = rw error-count at h in rw (error-at j l) (fits j l .2);
+        places = λ j h. let l : j < length es / 5 = rw error-count at h in rw (error-at j l, op-count) (fits j l .0);
+        in-order =
+            λ i j h l.
+            let lj : j < length es / 5 = rw error-count at l in
+            let li : i < length es / 5 = omega arith in
+            rw (error-at i li, error-at j lj) (ordered i j h lj);
+        one-each = rw op-count (one-each sound ∙ sym (op-measured _ (le-refl _)));
+        below = λ j h. ltb-true _ _ (each-choice sound j h);
+      }
+
+-- where the answer has the numbers, they mean this
+abbrev Meant : List ℕ → Told → Type 0
+Meant s (refused number place) = Unit {0}
+Meant s (accepted d n operations errors choices) = Means s d n operations errors choices
+
+pub accepted-means : AcceptedMeans
+accepted-means s d n operations errors choices e =
+    let good = no-refusal d n operations errors choices in
+    let p = all-passed s good e in
+    let sound = all-sound (dimensionOf s) (quditsOf s) (partOf s 4) (partOf s 10) (partOf s 16) good (p .bodies) in
+    let b1 : bodyOf s 1 ≡ partOf s 4 = by-kind s 1 e in
+    let b2 : bodyOf s 2 ≡ partOf s 10 = by-kind s 2 e in
+    let b3 : bodyOf s 3 ≡ partOf s 16 = by-kind s 3 e in
+    subst (Meant s) (sound .numbers)
+    (record {
+      dimension = refl;
+      dimension-listed = p .dimension;
+      qudits = refl;
+      qudits-sized = p .qudits;
+      operation-count = rw b1 (op-count sound);
+      error-count = rw b2 (error-count sound);
+      choice-count = ap length b3;
+      measurement-count = rw b1 (op-measured sound _ (le-refl _) ∙ sym (one-each sound));
+      lists = rw (b1, b2, b3) (lists sound);
+    })

@@ -1,0 +1,147 @@
+-- `book::read` meets its contract.
+-- Assumes nothing.
+use mathlib.Core.Path.{_≡_, sym, ap, _∙_}
+use mathlib.Core.Bool.{true}
+use Prim.Native.Nat.{_≤_}
+use native.Mathlib.Omega.{arith}
+use lib.ListN.{length}
+use denote.Ref.{now}
+use borrow.Author.Tests.{not-true, not-false}
+use borrow.Author.Needs.{needs}
+use Rattle.modular.specs.Dimension.{listed}
+use Rattle.tableau.specs.Tableau.{sized}
+use Rattle.body.specs.declared.Place.the-variants.{Nowhere}
+use Rattle.body.specs.Body.{at, readBodies}
+use Rattle.book.specs.Book.{headed, dimensionOf, quditsOf, partOf, badContents, readBook}
+use Rattle.book.proofs.Contents.{head-room, Inside, inside}
+use Rattle.book.proofs.read.Statement.{statement}
+use Rattle.book.proofs.read.Tie as tie
+
+-- past each test, what it says of the book
+head : (c : tie.Else1) → headed (now (c .before .before .before .args .book)) ≡ true
+head c = sym (c .before .is-headed .ensures) ∙ not-false _ (c .if1 .left)
+
+dimension : (c : tie.After-is-listed) → let s = now (c .before .before .before .before .before .before .before .before .args .book) in c .is-listed .result ≡ listed (dimensionOf s)
+dimension c = c .is-listed .ensures ∙ ap listed (c .before .wide2 .ensures .0)
+
+qudits : (c : tie.After-is-sized) → let s = now (c .before .before .before .before .before .before .before .before .before .before .args .book) in c .is-sized .result ≡ sized (quditsOf s)
+qudits c = c .is-sized .ensures ∙ ap sized (c .before .before .before .before .wide .ensures .0)
+
+room : (c : tie.Else1) → 22 ≤ length (now (c .before .before .before .args .book))
+room c = head-room _ (head c)
+
+-- past the header the rest decides
+rest : (c : tie.Else3) → let s = now (c .before .before .before .before .before .before .before .before .before .before .before .args .book) in
+    readBook s ≡ at 4 (badContents s) (readBodies (dimensionOf s) (quditsOf s) (partOf s 4) (partOf s 10) (partOf s 16))
+unfolding readBook
+rest c =
+    rw (
+      head (c .before .before .before .before .before .before .before .before),
+      sym (dimension (c .before .before .before)) ∙ not-false _ (c .before .before .if2 .left),
+      sym (qudits (c .before)) ∙ not-false _ (c .if3 .left),
+    )
+
+-- past the contents the bodies lie within the book
+contents : (c : tie.After-enum-told) → let s = now (c .before .before .before .before .before .before .before .before .before .before .before .before .before .before .args .book) in badContents s ≡ Nowhere
+contents c = sym (c .before .before .bad-contents .ensures) ∙ c .enum-told .given .1
+
+lies : (c : tie.After-enum-told) → let s = now (c .before .before .before .before .before .before .before .before .before .before .before .before .before .before .args .book) in Inside s
+lies c = inside _ (head (c .before .before .before .before .before .before .before .before .before .before .before)) (contents c)
+
+is-headed-requires : tie.Need-is-headed-requires
+is-headed-requires c κs = search needs
+
+returns : tie.Need-returns
+unfolding readBook
+returns c = rw (sym (c .before .is-headed .ensures) ∙ not-true _ (c .if1 .taken))
+
+shared-slice-read-d : tie.Need-shared-slice-read-d
+shared-slice-read-d c = omega (arith, room (c .before))
+
+shared-slice-read-wide : tie.Need-shared-slice-read-wide
+shared-slice-read-wide c = omega (arith, room (c .before .before))
+
+wide-requires : tie.Need-wide-requires
+wide-requires c κs = search needs
+
+wide-requires-2 : tie.Need-wide-requires-2
+wide-requires-2 c κs = search needs
+
+is-listed-requires : tie.Need-is-listed-requires
+is-listed-requires c κs = search needs
+
+returns-2 : tie.Need-returns-2
+unfolding readBook
+returns-2 c = rw (head (c .before .before .before .before .before .before), sym (dimension (c .before)) ∙ not-true _ (c .if2 .taken))
+
+is-sized-requires : tie.Need-is-sized-requires
+is-sized-requires c κs = search needs
+
+returns-3 : tie.Need-returns-3
+unfolding readBook
+returns-3 c =
+    rw (
+      head (c .before .before .before .before .before .before .before .before),
+      sym (dimension (c .before .before .before)) ∙ not-false _ (c .before .before .if2 .left),
+      sym (qudits (c .before)) ∙ not-true _ (c .if3 .taken),
+    )
+
+bad-contents-requires : tie.Need-bad-contents-requires
+bad-contents-requires c κs = room (c .before .before .before .before .before .before .before .before)
+
+enum-known-place : tie.Need-enum-known-place
+enum-known-place c = search needs
+
+returns-4 : tie.Need-returns-4
+returns-4 c = rw (rest (c .before .before .before .before), ← c .before .before .before .bad-contents .ensures, c .before .place .given .1)
+
+enum-told : tie.Need-enum-told
+enum-told c = search needs
+
+part-of-requires : tie.Need-part-of-requires
+part-of-requires c κs = (omega arith, lies c .room, lies c .first)
+
+part-of-requires-2 : tie.Need-part-of-requires-2
+part-of-requires-2 c κs = (omega arith, lies (c .before) .room, lies (c .before) .second)
+
+part-of-requires-3 : tie.Need-part-of-requires-3
+part-of-requires-3 c κs = (omega arith, lies (c .before .before) .room, lies (c .before .before) .third)
+
+read-bodies-requires : tie.Need-read-bodies-requires
+read-bodies-requires c κs = search needs
+
+returns-5 : tie.Need-returns-5
+returns-5 c =
+    rw (
+      rest (c .before .before .before .before .before .before .before),
+      contents (c .before .before .before .before),
+      ← c .before .before .before .part-of .ensures,
+      ← c .before .before .part-of2 .ensures,
+      ← c .before .part-of3 .ensures,
+      ← c .before .before .before .before .before .before .before .before .before .before .before .before .wide .ensures .0,
+    )
+    (c .read-bodies .ensures)
+
+pub read-spec : {M : Type 1} → statement M
+read-spec =
+    tie.close
+    (tie.spec
+    is-headed-requires
+    returns
+    shared-slice-read-d
+    shared-slice-read-wide
+    wide-requires
+    wide-requires-2
+    is-listed-requires
+    returns-2
+    is-sized-requires
+    returns-3
+    bad-contents-requires
+    enum-known-place
+    returns-4
+    enum-told
+    part-of-requires
+    part-of-requires-2
+    part-of-requires-3
+    read-bodies-requires
+    returns-5)

@@ -1,0 +1,48 @@
+-- An accepted book as lists of operations, errors and choices.
+use mathlib.Core.Path.{_≡_}
+use mathlib.Core.Bool.{true}
+use mathlib.Core.List.{List}
+use Prim.Native.Nat.{ℕ, _/_}
+use lib.ListN.{length}
+use Rattle.modular.specs.Dimension.{listed}
+use Rattle.row.specs.Row.{tab}
+use Rattle.tableau.specs.Tableau.{sized}
+use Rattle.operation.specs.declared.Operation.{Operation}
+use Rattle.operation.specs.declared.Operation.the-variants.{Measure}
+use Rattle.operation.specs.declared.WeylError.{WeylError}
+use Rattle.circuit.specs.Circuit.{measured, Accepted}
+use Rattle.body.specs.declared.Decoded.{Decoded}
+use Rattle.body.specs.declared.Decoded.the-variants.{Good, Bad}
+use Rattle.body.specs.Entry.{operationAt, errorAt}
+use Rattle.body.specs.Body.{accepted}
+use Rattle.book.specs.Book.{readBook, dimensionOf, quditsOf, bodyOf}
+
+-- the operation of an entry; an accepted book has no bad one
+abbrev pub operationIn : Decoded → Operation
+operationIn (Good op) = op
+operationIn Bad = Measure 0
+
+abbrev pub operationOf : ℕ → ℕ → List ℕ → ℕ → Operation
+operationOf d n ops k = operationIn (operationAt d n ops k)
+
+unfoldable pub operationsOf : ℕ → ℕ → List ℕ → List Operation
+operationsOf d n ops = tab (operationOf d n ops) (length ops / 4)
+
+unfoldable pub errorsOf : List ℕ → List WeylError
+errorsOf errors = tab (errorAt errors) (length errors / 5)
+
+-- What the reader's answer says of the lists: its numbers are theirs, and they are what 2, 3 and 5 to 7 let through.
+pub record Means (s : List ℕ) (d n operations errors choices : ℕ) : Type 0 where
+  pub dimension : dimensionOf s ≡ d
+  pub dimension-listed : listed d ≡ true
+  pub qudits : quditsOf s ≡ n
+  pub qudits-sized : sized n ≡ true
+  pub operation-count : length (operationsOf d n (bodyOf s 1)) ≡ operations
+  pub error-count : length (errorsOf (bodyOf s 2)) ≡ errors
+  pub choice-count : length (bodyOf s 3) ≡ choices
+  pub measurement-count : measured (operationsOf d n (bodyOf s 1)) operations ≡ choices
+  pub lists : Accepted d n (operationsOf d n (bodyOf s 1)) (errorsOf (bodyOf s 2)) (bodyOf s 3)
+
+abbrev pub AcceptedMeans : Type 0
+AcceptedMeans = (s : List ℕ) (d n operations errors choices : ℕ) → readBook s ≡ accepted d n operations errors choices
+    → Means s d n operations errors choices

@@ -1,0 +1,54 @@
+-- What an accepted book holds: operations, errors and choices, as lists.
+use mathlib.Core.Path.{_≡_}
+use mathlib.Core.Bool.{true}
+use mathlib.Core.List.{List}
+use Prim.Native.Nat.{ℕ, zero, suc, _+_, _<_, _≤_}
+use lib.ListN.{length, getD}
+use Rattle.operation.specs.declared.Operation.{Operation}
+use Rattle.operation.specs.declared.Operation.the-variants.{Fourier, PhaseGate, Sum, Cz, Swap, Multiplier, Measure}
+use Rattle.operation.specs.declared.WeylError.{WeylError}
+use Rattle.operation.specs.Operation.{allowed}
+use Rattle.operation.specs.Error.{errorAllowed}
+
+-- operation k and error j; past the end of a list, where nobody looks, some value
+abbrev pub opAt : List Operation → ℕ → Operation
+opAt ops k = getD ops k (Measure 0)
+
+abbrev pub errAt : List WeylError → ℕ → WeylError
+errAt errors j = getD errors j (record { place = 0; qudit = 0; p = 0; s = 0 })
+
+-- a gate, or a measurement of a qudit
+pub data Kind : Type 0 where
+  gate : Kind
+  measures : (q : ℕ) → Kind
+
+abbrev pub kind : Operation → Kind
+kind (Fourier q) = gate
+kind (PhaseGate q) = gate
+kind (Sum c t) = gate
+kind (Cz c t) = gate
+kind (Swap c t) = gate
+kind (Multiplier q u) = gate
+kind (Measure q) = measures q
+
+abbrev pub tallyKind : Kind → ℕ
+tallyKind gate = 0
+tallyKind (measures q) = 1
+
+-- 1 for a measurement, else 0
+abbrev pub tally : Operation → ℕ
+tally op = tallyKind (kind op)
+
+-- the measurements among the first k operations
+unfoldable pub measured : List Operation → ℕ → ℕ
+measured ops zero = 0
+measured ops (suc k) = measured ops k + tally (opAt ops k)
+
+-- A book is accepted when none of 1 to 7 refuses it: what 5, 6 and 7 leave.
+pub record Accepted (d n : ℕ) (ops : List Operation) (errors : List WeylError) (choices : List ℕ) : Type 0 where
+  pub operations : (k : ℕ) → k < length ops → allowed d n (opAt ops k) ≡ true
+  pub strikes : (j : ℕ) → j < length errors → errorAllowed d n (errAt errors j) ≡ true
+  pub places : (j : ℕ) → j < length errors → errAt errors j .place ≤ length ops
+  pub in-order : (i j : ℕ) → i ≤ j → j < length errors → errAt errors i .place ≤ errAt errors j .place
+  pub one-each : length choices ≡ measured ops (length ops)
+  pub below : (j : ℕ) → j < length choices → getD choices j 0 < d

@@ -1,0 +1,32 @@
+// Where a run stands in a circuit.
+ghost use mathlib.Core.Path.{_≡_};
+ghost use Prim.Native.Nat.{_≤_};
+ghost use Rattle.circuit.specs.Circuit.{tally};
+use operation::Operation;
+
+// The next error entry, and how many measurements were made.
+pub struct Progress {
+    pub entry: usize,
+    pub measurements: usize,
+}
+
+// A step taken, or the refusal that ends the run there.
+pub enum Advanced {
+    Next(Progress),
+    Refused { number: usize, place: usize },
+}
+
+// 1 for a measurement, else 0.
+pub fn tally(operation: Operation) -> usize
+    ensures { λ r. ⌜ (r ≡ tally operation) × (r ≤ 1) ⌝ }
+{
+    match operation {
+        Operation::Fourier { q: _ } => 0,
+        Operation::PhaseGate { q: _ } => 0,
+        Operation::Sum { c: _, t: _ } => 0,
+        Operation::Cz { c: _, t: _ } => 0,
+        Operation::Swap { c: _, t: _ } => 0,
+        Operation::Multiplier { q: _, u: _ } => 0,
+        Operation::Measure { q: _ } => 1,
+    }
+}

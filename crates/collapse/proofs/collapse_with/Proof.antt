@@ -1,0 +1,64 @@
+-- `collapse::collapse_with` meets its contract.
+-- Assumes nothing.
+use mathlib.Core.Path.{sym}
+use Prim.Native.Nat.{_+_, _*_, _≤_}
+use native.Mathlib.Nat.{mul-le-mul}
+use native.Mathlib.Omega.{arith}
+use lib.Seq.{length-take-le}
+use borrow.Author.Needs.{needs}
+use Rattle.modular.proofs.Listed.{dimension}
+use Rattle.collapse.proofs.collapse_with.Statement.{statement}
+use Rattle.collapse.proofs.collapse_with.Tie as tie
+
+mul-w : tie.Need-mul-w
+mul-w c = search needs
+
+add-w : tie.Need-add-w
+add-w c = search needs
+
+slice-relend-prefix-collapse-in : tie.Need-slice-relend-prefix-collapse-in
+slice-relend-prefix-collapse-in c = search needs
+
+slice-aggregate-collapse-in : tie.Need-slice-aggregate-collapse-in
+slice-aggregate-collapse-in c = sym (length-take-le _ (c .before .before .before .before .before .args .pivot .now) (omega arith))
+
+collapse-in-requires : tie.Need-collapse-in-requires
+collapse-in-requires c κs =
+    let s = c .before .before .before .before .before .before in
+    let p = s .pre in
+    let wide : 2 * s .args .n + 1 ≤ 129 = omega arith in (
+      p .0,
+      p .1,
+      p .2,
+      p .3,
+      p .4,
+      p .5,
+      length-take-le _ (s .args .pivot .now) (omega arith),
+      omega (arith, mul-le-mul (dimension _ (p .0) .high) wide, p .7),
+    )
+
+same-length : tie.Need-same-length
+same-length c = search needs
+
+same-length-2 : tie.Need-same-length-2
+same-length-2 c = search needs
+
+same-length-3 : tie.Need-same-length-3
+same-length-3 c = search needs
+
+returns : tie.Need-returns
+returns c = search needs
+
+pub collapse-with-spec : {M : Type 1} → statement M
+collapse-with-spec =
+    tie.close
+    (tie.spec
+    mul-w
+    add-w
+    slice-relend-prefix-collapse-in
+    slice-aggregate-collapse-in
+    collapse-in-requires
+    same-length
+    same-length-2
+    same-length-3
+    returns)

@@ -1,0 +1,54 @@
+-- `collapse::multiply` meets its contract.
+-- Assumes nothing.
+use native.Mathlib.Nat.{add-sub-cancel-left}
+use borrow.Author.Needs.{needs}
+use Rattle.tableau.specs.Tableau.{part}
+use Rattle.collapse.proofs.multiply.Statement.{statement}
+use Rattle.collapse.proofs.multiply.Tie as tie
+
+mul-w : tie.Need-mul-w
+mul-w c = search needs
+
+add-w : tie.Need-add-w
+add-w c = search needs
+
+mul-s : tie.Need-mul-s
+mul-s c = search needs
+
+add-e : tie.Need-add-e
+add-e c = search needs
+
+sub-product : tie.Need-sub-product
+sub-product c = search needs
+
+part-product-start : tie.Need-part-product-start
+part-product-start c = search needs
+
+part-product-end : tie.Need-part-product-end
+part-product-end c = search needs
+
+product-requires : tie.Need-product-requires
+unfolding part
+product-requires c κs = let p = c .before .before .before .before .pre in (p .0, p .1, p .2, p .4, simp add-sub-cancel-left (p .5))
+
+same-length : tie.Need-same-length
+same-length c = search needs
+
+returns : tie.Need-returns
+unfolding part
+returns c = simp (c .before .before .product .ensures, add-sub-cancel-left)
+
+pub multiply-spec : {M : Type 1} → statement M
+multiply-spec =
+    tie.close
+    (tie.spec
+    mul-w
+    add-w
+    mul-s
+    add-e
+    sub-product
+    part-product-start
+    part-product-end
+    product-requires
+    same-length
+    returns)

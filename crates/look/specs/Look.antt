@@ -1,0 +1,58 @@
+-- The look at qudit q: is its measurement free, or certain with which outcome?
+use mathlib.Core.Bool.{Bool, cond}
+use mathlib.Core.List.{List}
+use Prim.Native.Nat.{ℕ, zero, suc, _+_, _*_}
+use lib.Dec.{eqb}
+use lib.ListN.{getD}
+use Rattle.modular.specs.Modular.{neg}
+use Rattle.row.specs.Row.{xOf, phaseOf, product, power}
+use Rattle.row.specs.Generators.{unit}
+use Rattle.weyl.specs.Scalar.{scalar}
+use Rattle.search.specs.declared.Place.{Place}
+use Rattle.search.specs.declared.Place.the-variants.{At, Nowhere}
+use Rattle.search.specs.Search.{all, firstNot}
+use Rattle.tableau.specs.Tableau.{row}
+use Rattle.look.specs.declared.Look.{Look}
+use Rattle.look.specs.declared.Look.the-variants.{Free, Certain}
+use Rattle.look.specs.declared.Looked.{Looked}
+use Rattle.look.specs.declared.Looked.the-variants.{Seen, NotZ}
+
+-- the X power on q of destabilizer i, and of stabilizer i
+abbrev pub destabilizerPower : ℕ → List ℕ → ℕ → ℕ → ℕ
+destabilizerPower n t q i = xOf (row n t i) q
+
+abbrev pub stabilizerPower : ℕ → List ℕ → ℕ → ℕ → ℕ
+stabilizerPower n t q i = xOf (row n t (n + i)) q
+
+-- Free if some stabilizer has a_q ≠ 0: the lowest such.
+abbrev pub commutes : ℕ → List ℕ → ℕ → ℕ → Bool
+commutes n t q k = eqb (stabilizerPower n t q k) 0
+
+unfoldable pub pivotOf : ℕ → List ℕ → ℕ → Place
+pivotOf n t q = firstNot (commutes n t q) n
+
+-- the product, in order of i, of the first k stabilizers, stabilizer i to the power h i
+unfoldable pub combination : ℕ → ℕ → List ℕ → (ℕ → ℕ) → ℕ → List ℕ
+combination d n t h zero = scalar n 0
+combination d n t h (suc i) = product d n (combination d n t h i) (power d n (h i) (row n t (n + i)))
+
+-- Otherwise certain: the product, in order of i, of stabilizer i to the power a_q of destabilizer i is Z on q with some phase r;
+-- the outcome is −r.
+unfoldable pub weighted : ℕ → ℕ → List ℕ → ℕ → List ℕ
+weighted d n t q = combination d n t (destabilizerPower n t q) n
+
+abbrev pub zByte : ℕ → ℕ → List ℕ → ℕ → Bool
+zByte n q v s = eqb (getD v s 0) (unit (n + q) s)
+
+unfoldable pub isZ : ℕ → ℕ → List ℕ → Bool
+isZ n q v = all (zByte n q v) (2 * n)
+
+unfoldable pub outcomeOf : ℕ → ℕ → ℕ → List ℕ → Looked
+outcomeOf d n q v = cond (isZ n q v) (Seen (Certain (neg d (phaseOf n v)))) NotZ
+
+abbrev pub lookBy : ℕ → ℕ → List ℕ → ℕ → Place → Looked
+lookBy d n t q (At k) = Seen (Free k)
+lookBy d n t q Nowhere = outcomeOf d n q (weighted d n t q)
+
+unfoldable pub look : ℕ → ℕ → List ℕ → ℕ → Looked
+look d n t q = lookBy d n t q (pivotOf n t q)

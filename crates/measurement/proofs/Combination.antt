@@ -1,0 +1,67 @@
+-- Products of powers of stabilizers, and the stabilizer set of a valid tableau, as `stabilizer` has them.
+-- Assumes nothing.
+use mathlib.Core.List.{List}
+use Prim.Native.Nat.{ℕ, zero, suc, _+_, _≤_, _<_}
+use native.Mathlib.Nat.{le-refl}
+use native.Mathlib.Omega.{arith}
+use Rattle.congruence.proofs.Congruence.{cong-sym, cong-trans}
+use Rattle.congruence.proofs.Sum.{sum}
+use Rattle.stabilizer.proofs.Product.{vec, phs}
+use Rattle.stabilizer.proofs.Member.{Member, member-small}
+use Rattle.row.specs.Row.{Row}
+use Rattle.weyl.proofs.Reading.{Reads, reads-row, unique, reads-cong, reads-of, reads-scalar, reads-product, reads-power}
+use Rattle.tableau.specs.Tableau.{row}
+use Rattle.validity.specs.Validity.{Valid}
+use Rattle.look.specs.Look.{destabilizerPower, combination, weighted}
+use Rattle.measurement.specs.Stabilizers.{Stabilizes}
+use Rattle.measurement.proofs.View.{rows, phases, reads-at}
+
+-- The products of powers of stabilizers that read as g with phases r.
+module _ {d n : ℕ} (p : 0 < d) (t : List ℕ) (g : ℕ → ℕ → ℕ) (r : ℕ → ℕ) (each : (i : ℕ) → i < n → Reads d n (row n t (n + i)) (g i) (r i)) (h : ℕ → ℕ) where
+  reads-first : (k : ℕ) → k ≤ n → Reads d n (combination d n t h k) (vec g h k) (phs n g r h k)
+  unfolding combination sum phs
+  reads-first zero l = reads-scalar d n 0 p
+  reads-first (suc k) l = reads-product p (reads-first k (omega arith)) (reads-power p (h k) (each k (omega arith)))
+
+  pub reads-combination : Reads d n (combination d n t h n) (vec g h n) (phs n g r h n)
+  reads-combination = reads-first n (le-refl n)
+
+-- the powers and the phase of stabilizer i
+abbrev pub stabs : ℕ → List ℕ → ℕ → ℕ → ℕ
+stabs n t i = rows n t (n + i)
+
+abbrev pub signs : ℕ → List ℕ → ℕ → ℕ
+signs n t i = phases n t (n + i)
+
+module _ {d n : ℕ} {t : List ℕ} (ok : Valid d n t) (p : 0 < d) where
+  pub reads-stabs : (h : ℕ → ℕ) → Reads d n (combination d n t h n) (vec (stabs n t) h n) (phs n (stabs n t) (signs n t) h n)
+  reads-stabs = reads-combination p t (stabs n t) (signs n t) (λ i l. reads-at ok (n + i) (omega arith))
+
+  pub reads-weighted : (q : ℕ)
+      → Reads d n (weighted d n t q) (vec (stabs n t) (destabilizerPower n t q) n) (phs n (stabs n t) (signs n t) (destabilizerPower n t q) n)
+  unfolding weighted
+  reads-weighted q = reads-stabs (destabilizerPower n t q)
+
+  pub stabilizes-row : {v : List ℕ} → Stabilizes d n t v → Row d n v
+  stabilizes-row s = reads-row (reads-of (s .spelled) (reads-stabs (s .exponents)))
+
+  pub stabilizes-member : {v : List ℕ} {u : ℕ → ℕ} {r : ℕ} → Reads d n v u r → Stabilizes d n t v → Member d n (stabs n t) (signs n t) u r
+  stabilizes-member a s =
+      let b = reads-of (s .spelled) (reads-stabs (s .exponents)) in
+      record {
+        by = s .exponents;
+        powers = λ i l. cong-trans (cong-sym (a .powers i l)) (b .powers i l);
+        phase = cong-trans (cong-sym (a .phase)) (b .phase);
+      }
+
+-- The exponents of a member may be taken below d.
+pub member-stabilizes : (f : ℕ) {n : ℕ} {t : List ℕ} → Valid (suc (f + f)) n t → {v : List ℕ} {u : ℕ → ℕ} {r : ℕ} → Reads (suc (f + f)) n v u r
+    → Member (suc (f + f)) n (stabs n t) (signs n t) u r
+    → Stabilizes (suc (f + f)) n t v
+member-stabilizes f {n} {t} ok {u = u} {r = r} a m =
+    let (h, small, powers, phase) = member-small f n (stabs n t) (signs n t) u r m in
+    record {
+      exponents = h;
+      below = λ i l. small i;
+      spelled = unique (reads-cong powers phase a) (reads-stabs ok (omega arith) h);
+    }

@@ -1,0 +1,70 @@
+-- What the look at a qudit says of the stabilizers.
+-- Assumes nothing.
+use mathlib.Core.Path.{_≡_, refl, sym, ap, _∙_}
+use mathlib.Core.Bool.{Bool, true, false, cond}
+use mathlib.Core.List.{List}
+use Prim.Native.Nat.{ℕ, _<_}
+use native.Mathlib.Decide.{decLt}
+use native.Mathlib.Omega.{arith}
+use borrow.Author.Tests.{eqb-true, eqb-false}
+use Rattle.modular.specs.Modular.{neg}
+use Rattle.row.specs.Row.{phaseOf}
+use Rattle.search.specs.declared.Place.{Place}
+use Rattle.search.specs.declared.Place.the-variants.{At, Nowhere}
+use Rattle.search.proofs.Search.{found-fails, all-good}
+use Rattle.look.specs.declared.Look.the-variants.{Free, Certain}
+use Rattle.look.specs.declared.Looked.the-variants.{Seen, NotZ}
+use Rattle.look.specs.Look.{stabilizerPower, commutes, pivotOf, weighted, isZ, outcomeOf, lookBy, look}
+
+-- Stabilizer k is the lowest with an X power on q.
+pub record Pivot (n : ℕ) (t : List ℕ) (q k : ℕ) : Type 0 where
+  pub number : k < n
+  pub power : ¬ (stabilizerPower n t q k ≡ 0)
+  pub lowest : (j : ℕ) → j < k → stabilizerPower n t q j ≡ 0
+
+-- No stabilizer has one: all commute with Z on q.
+abbrev pub Commuting : (n : ℕ) → List ℕ → ℕ → Type 0
+Commuting n t q = (i : ℕ) → i < n → stabilizerPower n t q i ≡ 0
+
+pub data Looks (d n : ℕ) (t : List ℕ) (q : ℕ) : Type 0 where
+  free : (k : ℕ) → Pivot n t q k → look d n t q ≡ Seen (Free k) → Looks d n t q
+  certain : Commuting n t q → look d n t q ≡ outcomeOf d n q (weighted d n t q) → Looks d n t q
+
+pub looks : (d n : ℕ) (t : List ℕ) (q : ℕ) → Looks d n t q
+unfolding look pivotOf
+looks d n t q = go (pivotOf n t q) refl
+  where
+    go : (p : Place) → pivotOf n t q ≡ p → Looks d n t q
+    go (At k) e =
+        let (number, fails, lower) = found-fails (commutes n t q) n k e in
+        free k (record { number = number; power = eqb-false _ 0 fails; lowest = λ j l. eqb-true _ 0 (lower j l) }) (ap (lookBy d n t q) e)
+    go Nowhere e = certain (λ i l. eqb-true _ 0 (all-good (commutes n t q) n e i l)) (ap (lookBy d n t q) e)
+
+-- An outcome is not free.
+outcome-not : (d n q k : ℕ) (v : List ℕ) → outcomeOf d n q v ≡ Seen (Free k) → ⊥
+unfolding outcomeOf
+outcome-not d n q k v = go (isZ n q v)
+  where
+    go : (b : Bool) → cond b (Seen (Certain (neg d (phaseOf n v)))) NotZ ≡ Seen (Free k) → ⊥
+    go true e = let z : _≡_ {A = ℕ} 0 1 = cc in omega arith
+    go false e = let z : _≡_ {A = ℕ} 0 1 = cc in omega arith
+
+pub look-free : (d n : ℕ) (t : List ℕ) (q k : ℕ) → look d n t q ≡ Seen (Free k) → Pivot n t q k
+look-free d n t q k e = go (looks d n t q)
+  where
+    go : Looks d n t q → Pivot n t q k
+    go (free j p f) = let same : k ≡ j = cc in rw same p
+    go (certain h f) = absurd (outcome-not d n q k (weighted d n t q) (sym f ∙ e))
+
+-- There is one pivot, and the look gives it.
+pub pivot-look : (d n : ℕ) (t : List ℕ) (q k : ℕ) → Pivot n t q k → look d n t q ≡ Seen (Free k)
+pivot-look d n t q k p = go (looks d n t q)
+  where
+    same : (j : ℕ) → Pivot n t q j → Dec (j < k) → Dec (k < j) → j ≡ k
+    same j r (yes l) x = absurd (r .power (p .lowest j l))
+    same j r (no l) (yes x) = absurd (p .power (r .lowest k x))
+    same j r (no l) (no x) = omega arith
+
+    go : Looks d n t q → look d n t q ≡ Seen (Free k)
+    go (free j r e) = e ∙ ap (λ (i : ℕ). Seen (Free i)) (same j r (decLt j k) (decLt k j))
+    go (certain h e) = absurd (p .power (h k (p .number)))

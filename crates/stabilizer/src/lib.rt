@@ -1,0 +1,1 @@
+// The algebra of stabilizer sets; no code.

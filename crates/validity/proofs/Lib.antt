@@ -1,0 +1,2 @@
+-- The theorem on the definitions.
+pub mod Exactly
