@@ -1,5 +1,4 @@
 -- What other proofs use; the bytes of an operation; worked cases.
-pub mod Search
 pub mod Sound
 pub mod Steps
 pub mod Spelling

@@ -9,10 +9,10 @@ use native.Mathlib.Omega.{arith}
 use lib.Dec.{eqb}
 use lib.ListN.{length}
 use borrow.Author.Tests.{eqb-true}
-use Rattle.body.specs.declared.Place.{Place}
-use Rattle.body.specs.declared.Place.the-variants.{At, Nowhere}
+use Rattle.search.specs.declared.Place.{Place}
+use Rattle.search.specs.declared.Place.the-variants.{At, Nowhere}
 use Rattle.body.specs.Body.{goodOperation, badOperation, measurements, goodError, badError, goodChoice, badChoice, Told, refused, accepted, at, readBodies}
-use Rattle.body.proofs.Search.{met, some-place, all-good}
+use Rattle.search.proofs.Search.{met, some-place, all-good}
 
 -- an answer that is no refusal
 abbrev pub NoRefusal : Told → Type 0

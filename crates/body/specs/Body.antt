@@ -6,13 +6,13 @@ use lib.Dec.{eqb, leb, ltb}
 use lib.ListN.{length, getD}
 use Rattle.operation.specs.declared.WeylError.{WeylError}
 use Rattle.operation.specs.Error.{errorAllowed}
-use Rattle.body.specs.declared.Place.{Place}
-use Rattle.body.specs.declared.Place.the-variants.{At, Nowhere}
+use Rattle.search.specs.declared.Place.{Place}
+use Rattle.search.specs.declared.Place.the-variants.{At, Nowhere}
 use Rattle.body.specs.declared.Decoded.{Decoded}
 use Rattle.body.specs.declared.Decoded.the-variants.{Good, Bad}
 use Rattle.body.specs.declared.Reading.{Reading}
 use Rattle.body.specs.declared.Reading.the-variants.{Accepted, Refused}
-use Rattle.body.specs.Search.{unless, firstBad}
+use Rattle.search.specs.Search.{unless, firstNot}
 use Rattle.body.specs.Entry.{operationAt, errorAt}
 
 -- whole entries of `size` bytes, at most `most`
@@ -28,7 +28,7 @@ abbrev pub goodOperation : ℕ → ℕ → List ℕ → ℕ → Bool
 goodOperation d n ops k = isGood (operationAt d n ops k)
 
 unfoldable pub badOperation : ℕ → ℕ → List ℕ → Place
-badOperation d n ops = firstBad (goodOperation d n ops) (length ops / 4)
+badOperation d n ops = firstNot (goodOperation d n ops) (length ops / 4)
 
 -- the measurements among the first k operations: those of code 6
 abbrev pub oneIf : Bool → ℕ
@@ -51,7 +51,7 @@ unfoldable pub goodError : ℕ → ℕ → ℕ → List ℕ → ℕ → Bool
 goodError d n count errors k = errorFits d n count (placeBefore errors k) (errorAt errors k)
 
 unfoldable pub badError : ℕ → ℕ → ℕ → List ℕ → Place
-badError d n count errors = firstBad (goodError d n count errors) (length errors / 5)
+badError d n count errors = firstNot (goodError d n count errors) (length errors / 5)
 
 -- 7: the smaller count where choices and measurements differ in number; else first choice not below d
 abbrev pub smaller : ℕ → ℕ → ℕ
@@ -63,7 +63,7 @@ goodChoice d choices k = ltb (getD choices k 0) d
 unfoldable pub badChoice : ℕ → ℕ → List ℕ → Place
 badChoice d measured choices =
     unless (eqb (length choices) measured) (At (smaller (length choices) measured))
-    (firstBad (goodChoice d choices) (length choices))
+    (firstNot (goodChoice d choices) (length choices))
 
 -- What is told of a book: the number and place of its refusal, or its own numbers.
 pub data Told : Type 0 where

@@ -7,12 +7,7 @@ ghost use Rattle.body.specs.Body.{lengthFits, badOperation, oneIf, measu
 use operation::Operation;
 use operation::Step;
 use operation::WeylError;
-
-// The place that a search found, or that there is none.
-pub enum Place {
-    At(usize),
-    Nowhere,
-}
+use search::Place;
 
 // An entry of operations, decoded.
 pub enum Decoded {

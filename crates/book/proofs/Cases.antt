@@ -5,7 +5,7 @@ use mathlib.Core.List.{List, [], _∷_, _++_}
 use Prim.Native.Nat.{ℕ}
 use lib.ListN.{set}
 use Rattle.modular.specs.Dimension.{listed}
-use Rattle.body.specs.Search.{firstBad}
+use Rattle.search.specs.Search.{firstNot}
 use Rattle.body.specs.Entry.{decoded, errorAt}
 use Rattle.body.specs.Body.{badOperation, measurements, goodError, badError, badChoice, refused, accepted, readBodies}
 use Rattle.book.specs.Book.{headed, entryFits, badContents, readBook, bodyOf}
@@ -17,7 +17,7 @@ example =
     ∷ 0 ∷ 0 ∷ 0 ∷ 0 ∷ 2 ∷ 0 ∷ 1 ∷ 0 ∷ 6 ∷ 0 ∷ 0 ∷ 0 ∷ 6 ∷ 1 ∷ 0 ∷ 0 ∷ 2 ∷ 0 ∷ 1 ∷ 1 ∷ 0 ∷ 2 ∷ 0 ∷ []
 
 pub example-accepted : readBook example ≡ accepted 3 2 4 1 2
-unfolding listed firstBad decoded errorAt measurements badOperation goodError badError badChoice readBodies headed entryFits badContents readBook
+unfolding listed firstNot decoded errorAt measurements badOperation goodError badError badChoice readBodies headed entryFits badContents readBook
 example-accepted = refl
 
 -- its bodies are handed back by their kinds alone
@@ -43,5 +43,5 @@ contents = (refl, refl, refl, refl, refl, refl)
 
 -- 5, 6 and 7: SUM of a qudit with itself; a place too high; a choice of d
 pub bodies : (readBook (set example 28 0) ≡ refused 5 1) × (readBook (set example 38 5) ≡ refused 6 0) × (readBook (set example 44 3) ≡ refused 7 1)
-unfolding listed firstBad decoded errorAt measurements badOperation goodError badError badChoice readBodies headed entryFits badContents readBook
+unfolding listed firstNot decoded errorAt measurements badOperation goodError badError badChoice readBodies headed entryFits badContents readBook
 bodies = (refl, refl, refl)

@@ -10,9 +10,9 @@ use lib.ListN.{length, getD}
 use borrow.Author.Tests.{eqb-true, leb-true}
 use Rattle.modular.specs.Dimension.{listed}
 use Rattle.tableau.specs.Tableau.{sized}
-use Rattle.body.specs.declared.Place.the-variants.{Nowhere}
+use Rattle.search.specs.declared.Place.the-variants.{Nowhere}
 use Rattle.body.specs.Body.{Told, accepted, readBodies}
-use Rattle.body.proofs.Search.{met, some-place}
+use Rattle.search.proofs.Search.{met, some-place}
 use Rattle.body.proofs.Sound.{NoRefusal, nowhere}
 use Rattle.book.specs.Book.{headed, dimensionOf, quditsOf, offsetOf, endOf, partOf, entryFits, badContents, readBook, ofKind, bodyOf}
 
@@ -38,7 +38,7 @@ unfolding headed
 head-room s e = leb-true _ _ (and-eq-true-iff (leb 22 (length s)) _ .0 e .0)
 
 -- each body begins where the last one ended, and the book ends with the third
-record Laid (s : List ℕ) : Type 0 where
+pub record Laid (s : List ℕ) : Type 0 where
   pub first : offsetOf s 4 ≡ 22
   pub second : offsetOf s 10 ≡ endOf s 4
   pub third : offsetOf s 16 ≡ endOf s 10
@@ -51,7 +51,7 @@ begins s at kind start size most e =
     let e2 = and-eq-true-iff (eqb (getD s (at + 1) 0) 0) _ .0 e1 .1 in
     eqb-true _ _ (and-eq-true-iff (eqb (offsetOf s at) start) _ .0 e2 .0)
 
-laid : (s : List ℕ) → badContents s ≡ Nowhere → Laid s
+pub laid : (s : List ℕ) → badContents s ≡ Nowhere → Laid s
 unfolding badContents
 laid s e =
     let m0 = met (entryFits s 4 1 22 4 4096) some-place e in

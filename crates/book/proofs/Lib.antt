@@ -1,4 +1,6 @@
--- What the proofs of several functions use; what an accepted book means; worked cases.
+-- What the proofs of several functions use; what an accepted book means, and hands to a run; worked cases.
 pub mod Contents
+pub mod Lists
 pub mod Meaning
+pub mod Handed
 pub mod Cases

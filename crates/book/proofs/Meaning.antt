@@ -10,12 +10,11 @@ use native.Mathlib.Omega.{arith}
 use lib.Dec.{eqb, leb}
 use lib.ListN.{length, getD}
 use borrow.Author.Tests.{leb-true, ltb-true}
-use Rattle.row.proofs.Fill.{tab-length, tab-get}
 use Rattle.operation.specs.declared.Operation.{Operation}
 use Rattle.operation.specs.declared.Operation.the-variants.{Fourier, PhaseGate, Sum, Cz, Swap, Multiplier, Measure}
 use Rattle.operation.specs.Operation.{allowed}
 use Rattle.operation.specs.Error.{errorAllowed}
-use Rattle.circuit.specs.Circuit.{opAt, errAt, tally, measured, Accepted}
+use Rattle.circuit.specs.Circuit.{tally, measured, Accepted}
 use Rattle.body.specs.declared.Decoded.{Decoded}
 use Rattle.body.specs.declared.Decoded.the-variants.{Good, Bad}
 use Rattle.body.specs.Entry.{bytesOf, operationAt, errorAt}
@@ -25,6 +24,7 @@ use Rattle.body.proofs.Spelling.{spelled}
 use Rattle.book.specs.Book.{dimensionOf, quditsOf, partOf, bodyOf}
 use Rattle.book.specs.Decoded.{operationIn, operationOf, operationsOf, errorsOf, Means, AcceptedMeans}
 use Rattle.book.proofs.Contents.{all-passed, by-kind}
+use Rattle.book.proofs.Lists.{op-count, op-at, error-count, error-at}
 
 is-in : (x : Decoded) → isGood x ≡ true → x ≡ Good (operationIn x)
 is-in (Good op) e = refl
@@ -47,14 +47,6 @@ entryOf os k = getD os (4 * k) 0 ∷ getD os (4 * k + 1) 0 ∷ getD os (4 * k + 
 
 module _ {d n : ℕ} {os es cs : List ℕ} {t : Told} (sound : Sound d n os es cs t) where
   -- the operations
-  op-count : length (operationsOf d n os) ≡ length os / 4
-  unfolding operationsOf
-  op-count = tab-length (operationOf d n os) (length os / 4)
-
-  op-at : (k : ℕ) → k < length os / 4 → opAt (operationsOf d n os) k ≡ operationOf d n os k
-  unfolding operationsOf
-  op-at k h = tab-get (operationOf d n os) (length os / 4) k (Measure 0) h
-
   -- entry k is allowed, and its bytes are its operation's
   entry : (k : ℕ) → k < length os / 4 → (allowed d n (operationOf d n os k) ≡ true) × (entryOf os k ≡ bytesOf (operationOf d n os k))
   entry k h = spelled d n _ _ _ _ (operationOf d n os k) .0 (is-in (operationAt d n os k) (each-operation sound k h))
@@ -65,17 +57,9 @@ module _ {d n : ℕ} {os es cs : List ℕ} {t : Told} (sound : Sound d n os es c
   op-measured : (k : ℕ) → k ≤ length os / 4 → measured (operationsOf d n os) k ≡ measurements os k
   unfolding measured measurements
   op-measured zero h = refl
-  op-measured (suc k) h = rw (op-measured k (omega arith), op-at k h, op-tally k h)
+  op-measured (suc k) h = rw (op-measured k (omega arith), op-at d n os k h, op-tally k h)
 
   -- the errors
-  error-count : length (errorsOf es) ≡ length es / 5
-  unfolding errorsOf
-  error-count = tab-length (errorAt es) (length es / 5)
-
-  error-at : (j : ℕ) → j < length es / 5 → errAt (errorsOf es) j ≡ errorAt es j
-  unfolding errorsOf
-  error-at j h = tab-get (errorAt es) (length es / 5) j _ h
-
   fits : (j : ℕ) → j < length es / 5 →
       (errorAt es j .place ≤ length os / 4) × (placeBefore es j ≤ errorAt es j .place) × (errorAllowed d n (errorAt es j) ≡ true)
   unfolding goodError
@@ -94,14 +78,14 @@ module _ {d n : ℕ} {os es cs : List ℕ} {t : Told} (sound : Sound d n os es c
   lists : Accepted d n (operationsOf d n os) (errorsOf es) cs
   lists =
       record {
-        operations = λ k h. let l : k < length os / 4 = rw op-count at h in rw (op-at k l) (entry k l .0);
-        strikes = λ j h. let l : j < length es / 5 = rw error-count at h in rw (error-at j l) (fits j l .2);
-        places = λ j h. let l : j < length es / 5 = rw error-count at h in rw (error-at j l, op-count) (fits j l .0);
+        operations = λ k h. let l : k < length os / 4 = rw op-count at h in rw (op-at d n os k l) (entry k l .0);
+        strikes = λ j h. let l : j < length es / 5 = rw error-count at h in rw (error-at es j l) (fits j l .2);
+        places = λ j h. let l : j < length es / 5 = rw error-count at h in rw (error-at es j l, op-count) (fits j l .0);
         in-order =
             λ i j h l.
             let lj : j < length es / 5 = rw error-count at l in
             let li : i < length es / 5 = omega arith in
-            rw (error-at i li, error-at j lj) (ordered i j h lj);
+            rw (error-at es i li, error-at es j lj) (ordered i j h lj);
         one-each = rw op-count (one-each sound ∙ sym (op-measured _ (le-refl _)));
         below = λ j h. ltb-true _ _ (each-choice sound j h);
       }
@@ -125,8 +109,8 @@ accepted-means s d n operations errors choices e =
       dimension-listed = p .dimension;
       qudits = refl;
       qudits-sized = p .qudits;
-      operation-count = rw b1 (op-count sound);
-      error-count = rw b2 (error-count sound);
+      operation-count = rw b1 (op-count _ _ _);
+      error-count = rw b2 (error-count _);
       choice-count = ap length b3;
       measurement-count = rw b1 (op-measured sound _ (le-refl _) ∙ sym (one-each sound));
       lists = rw (b1, b2, b3) (lists sound);

@@ -6,9 +6,9 @@ use lib.Dec.{eqb, leb}
 use lib.ListN.{length, getD, take, drop}
 use Rattle.modular.specs.Dimension.{listed}
 use Rattle.tableau.specs.Tableau.{sized}
-use Rattle.body.specs.declared.Place.{Place}
-use Rattle.body.specs.declared.Place.the-variants.{At, Nowhere}
-use Rattle.body.specs.Search.{unless}
+use Rattle.search.specs.declared.Place.{Place}
+use Rattle.search.specs.declared.Place.the-variants.{At, Nowhere}
+use Rattle.search.specs.Search.{unless}
 use Rattle.body.specs.Entry.{word}
 use Rattle.body.specs.Body.{lengthFits, Told, refused, accepted, at, readBodies}
 

@@ -31,6 +31,19 @@ operationsOf d n ops = tab (operationOf d n ops) (length ops / 4)
 unfoldable pub errorsOf : List ℕ → List WeylError
 errorsOf errors = tab (errorAt errors) (length errors / 5)
 
+-- A book's operations, errors and choices, and how many of its operations are measurements.
+abbrev pub opsIn : List ℕ → ℕ → ℕ → List Operation
+opsIn s d n = operationsOf d n (bodyOf s 1)
+
+abbrev pub errorsIn : List ℕ → List WeylError
+errorsIn s = errorsOf (bodyOf s 2)
+
+abbrev pub choicesIn : List ℕ → List ℕ
+choicesIn s = bodyOf s 3
+
+abbrev pub measurementsIn : List ℕ → ℕ → ℕ → ℕ
+measurementsIn s d n = measured (opsIn s d n) (length (opsIn s d n))
+
 -- What the reader's answer says of the lists: its numbers are theirs, and they are what 2, 3 and 5 to 7 let through.
 pub record Means (s : List ℕ) (d n operations errors choices : ℕ) : Type 0 where
   pub dimension : dimensionOf s ≡ d

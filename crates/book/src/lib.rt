@@ -4,12 +4,12 @@ ghost use Prim.Native.Nat.{_+_, _*_, _<_, _≤_};
 ghost use lib.ListN.{length};
 ghost use Rattle.body.specs.Body.{told};
 ghost use Rattle.book.specs.Book.{headed, endOf, partOf, entryFits, badContents, readBook, bodyOf};
-use body::Place;
 use body::Reading;
 use body::length_fits;
 use body::read_bodies;
 use body::wide;
 use body::word;
+use search::Place;
 
 fn is_headed(book: &[u8]) -> bool
     ensures { λ r. ⌜ r ≡ headed (now (book .entry)) ⌝ }
@@ -58,7 +58,7 @@ fn bad_contents(book: &[u8]) -> Place
 }
 
 // The body whose contents entry begins at byte `at`.
-fn part_of(book: &[u8], at: usize) -> &[u8]
+pub fn part_of(book: &[u8], at: usize) -> &[u8]
     requires { ⌜ (at + 6 ≤ 22) × (22 ≤ length (now book)) × (endOf (now book) at ≤ length (now book)) ⌝ }
     ensures { λ r. ⌜ now r ≡ partOf (now (book .entry)) at ⌝ }
 {

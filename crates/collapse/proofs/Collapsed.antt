@@ -10,20 +10,11 @@ use lib.Dec.{eqb}
 use Rattle.modular.specs.Modular.{neg}
 use Rattle.modular.proofs.Residue.{neg-less, neg-zero}
 use Rattle.row.specs.Row.{Row, product, power}
-use Rattle.row.specs.Generators.{unit, zWith}
-use Rattle.row.proofs.Fill.{row-below}
-use Rattle.row.proofs.Laws.{product-row, power-row}
+use Rattle.row.specs.Generators.{zWith}
+use Rattle.row.proofs.Laws.{product-row, power-row, unit-row}
 use Rattle.weyl.proofs.Laws.{neutral, power-zero}
 use Rattle.tableau.proofs.Parts.{Keeps}
 use Rattle.collapse.specs.Collapse.{collapseRow}
-
-one-less : {d : ℕ} (b : Bool) → 1 < d → cond {A = ℕ} b 1 0 < d
-one-less true h = h
-one-less false h = omega arith
-
-z-row : (d n q r : ℕ) → 1 < d → r < d → Row d n (zWith n q r)
-unfolding zWith
-z-row d n q r h l = row-below n (unit (n + q)) r d (λ i k. one-less (eqb i (n + q)) h) l
 
 either : {d n : ℕ} {v w : List ℕ} (b : Bool) → Row d n v → Row d n w → Row d n (cond b v w)
 either true p q = p
@@ -31,11 +22,11 @@ either false p q = q
 
 module _ (d n q k m : ℕ) (pivot : List ℕ) (h : 1 < d) where
   pub collapsed : (i : ℕ) (v : List ℕ) → Row d n (collapseRow d n q k m pivot i v)
-  unfolding collapseRow
+  unfolding collapseRow zWith
   collapsed i v =
       let p : 0 < d = omega arith in
       either (eqb i k) (power-row d n _ pivot p)
-      (either (eqb i (n + k)) (z-row d n q _ h (neg-less d _ p)) (product-row d n v _ p))
+      (either (eqb i (n + k)) (unit-row d n (n + q) _ h (neg-less d _ p)) (product-row d n v _ p))
 
   pub collapsed-keeps : Keeps (2 * n + 1) (collapseRow d n q k m pivot)
   collapsed-keeps = record { keeps = λ i v e. collapsed i v .len }

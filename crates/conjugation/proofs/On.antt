@@ -2,18 +2,17 @@
 -- Assumes nothing.
 use mathlib.Core.Path.{_≡_, refl, sym, ap, _∙_}
 use mathlib.Core.Logic.{_≢_}
-use mathlib.Core.Bool.{Bool, true, false, cond}
 use mathlib.Core.List.{List}
 use Prim.Native.Nat.{ℕ, _+_, _*_, _<_}
 use native.Mathlib.Omega.{arith}
-use lib.Dec.{eqb}
 use borrow.Author.Tests.{eq-eqb, ne-eqb}
 use Rattle.congruence.proofs.Congruence.{Cong, cong-refl, cong-eq}
 use Rattle.symplectic.proofs.Triangle.{tri}
 use Rattle.symplectic.proofs.Pairing.{half, half-none-left, half-none-right, half-congr}
 use Rattle.symplectic.proofs.Gates.{put, put-rel, put-x, put-z, put-other, half-put}
 use Rattle.row.specs.Row.{rowOf, product, power}
-use Rattle.row.proofs.Fill.{row-power, row-phase, row-below}
+use Rattle.row.proofs.Fill.{row-power, row-phase}
+use Rattle.row.proofs.Laws.{unit-row}
 use Rattle.weyl.specs.Scalar.{none}
 use Rattle.weyl.proofs.Reading.{Reads, reads-means, reads-cong, reads-same, reads-product, reads-power}
 use Rattle.row.specs.Generators.{unit, xWith, zWith}
@@ -96,12 +95,8 @@ unit-other p s e = rw (ne-eqb s p e)
 
 generator : {d : ℕ} (n p : ℕ) → 1 < d → Reads d n (rowOf n (unit p) 0) (unit p) 0
 generator {d} n p low =
-    reads-means (row-below n (unit p) 0 d (λ s k. small (eqb s p)) (omega arith))
+    reads-means (unit-row d n p 0 low (omega arith))
     (record { powers = λ s k. cong-eq d (row-power n (unit p) 0 s (omega arith)); phase = cong-eq d (row-phase n (unit p) 0) })
-  where
-    small : (t : Bool) → cond t 1 0 < d
-    small true = low
-    small false = omega arith
 
 module _ {d n q : ℕ} (low : 1 < d) (l : q < n) where
   pub x-on : On d n q none (xOn n q) 1 0 0

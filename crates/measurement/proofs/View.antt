@@ -18,7 +18,8 @@ use Rattle.stabilizer.proofs.Bridge.{inverses, valid, valid-partners, valid-oth
 use Rattle.modular.specs.Dimension.{Dimension, inverse}
 use Rattle.row.specs.Row.{Row, phaseOf, pairing, rowOf}
 use Rattle.row.specs.Generators.{unit, zWith}
-use Rattle.row.proofs.Fill.{row-power, row-phase, row-below}
+use Rattle.row.proofs.Fill.{row-power, row-phase}
+use Rattle.row.proofs.Laws.{unit-row}
 use Rattle.weyl.proofs.Reading.{bytes, Reads, reads-means, reads-self, reads-row, reads-of, pairing-small, pairing-is}
 use Rattle.tableau.specs.Tableau.{row, onRows}
 use Rattle.tableau.proofs.Parts.{Keeps, tableau-row, rows-tableau, on-length, on-at}
@@ -90,7 +91,7 @@ unit-is p s = go (ℕ-discrete s p)
 
 pub reads-unit : {d : ℕ} → 1 < d → (n p : ℕ) {r : ℕ} → r < d → Reads d n (rowOf n (unit p) r) (Sum.unit p) r
 reads-unit {d} low n p {r} l =
-    reads-means (row-below n (unit p) r d (λ s k. omega (arith, unit-is p s, Sum.unit-small p s)) l)
+    reads-means (unit-row d n p r low l)
     (record { powers = λ s k. cong-eq d (row-power n (unit p) r s (omega arith) ∙ unit-is p s); phase = cong-eq d (row-phase n (unit p) r) })
 
 pub reads-z : {d : ℕ} → 1 < d → (n q : ℕ) {r : ℕ} → r < d → Reads d n (zWith n q r) (zed n q) r

@@ -3,7 +3,6 @@ use mathlib.Core.List.{List}
 use mathlib.Core.Bool.{Bool, _&&_}
 use Prim.Native.Nat.{ℕ, _+_, _*_, _%_}
 use lib.Dec.{ltb}
-use lib.ListN.{getD, set}
 use Rattle.modular.specs.Modular.{neg}
 use Rattle.row.specs.Row.{xOf, zOf, phaseOf}
 use Rattle.tableau.specs.Tableau.{onRows, every}

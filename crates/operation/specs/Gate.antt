@@ -1,7 +1,7 @@
 -- The six gates on a row and on a frame, line by line as the table of operations has them. Right-hand sides use old powers.
 use mathlib.Core.List.{List}
 use Prim.Native.Nat.{ℕ, _+_, _*_, _%_}
-use lib.ListN.{getD, set}
+use lib.ListN.{set}
 use Rattle.modular.specs.Modular.{neg, tri}
 use Rattle.modular.specs.Dimension.{inverse}
 use Rattle.row.specs.Row.{xOf, zOf, phaseOf}

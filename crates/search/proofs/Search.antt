@@ -1,8 +1,8 @@
 -- What a loop that tests one number after the other knows, of the first failure and of all tests.
 -- Assumes nothing.
 use mathlib.Core.Bool.{Bool, true, false, _&&_, false≢true}
-use mathlib.Core.Path.{_≡_, refl, ap, _∙_}
-use mathlib.Core.Logic.{⊎-elim}
+use mathlib.Core.Path.{_≡_, refl, sym, ap, _∙_}
+use mathlib.Core.Logic.{_≢_, ⊎-elim}
 use Prim.Native.Nat.{ℕ, zero, suc, _+_, _<_}
 use native.Mathlib.Nat.{eq-or-lt-of-le}
 use native.Mathlib.Numerals.{add-one}
@@ -15,9 +15,13 @@ pub both : (a b : Bool) → a && b ≡ true → (a ≡ true) × (b ≡ true)
 both true b e = (refl, e)
 both false b e = absurd (false≢true e)
 
-pub met : (b : Bool) (k : ℕ) (rest : Place) → unless b (At k) rest ≡ Nowhere → (b ≡ true) × (rest ≡ Nowhere)
-met true k rest e = (refl, e)
-met false k rest e = (cc, cc)
+-- where a test's refusal is not the answer, the test was met
+pub met : {A : Type 0} {bad rest good : A} (t : Bool) → bad ≢ good → unless t bad rest ≡ good → (t ≡ true) × (rest ≡ good)
+met true n e = (refl, e)
+met false n e = absurd (n e)
+
+pub some-place : {k : ℕ} → At k ≢ Nowhere
+some-place e = let z : _≡_ {A = ℕ} 0 1 = cc in omega arith
 
 below-zero : {k : ℕ} → k < 0 → ⊥
 below-zero h = omega arith
@@ -36,7 +40,7 @@ module _ (test : ℕ → Bool) where
       ⊎-elim (λ (q : k ≡ m). rw (← q, e, g)) (λ (q : k < m). rw (← found m k q e g)) (eq-or-lt-of-le {n = k} {m = m} (omega arith))
 
   both-none : (p q : Place) → orElse p q ≡ Nowhere → (p ≡ Nowhere) × (q ≡ Nowhere)
-  both-none (At k) q e = let z : At k ≡ Nowhere = e in (z, cc)
+  both-none (At k) q e = absurd (some-place e)
   both-none Nowhere q e = (refl, e)
 
   -- where none fails, all pass
@@ -45,15 +49,12 @@ module _ (test : ℕ → Bool) where
   all-good zero e j h = absurd (below-zero h)
   all-good (suc m) e j h =
       let b = both-none (firstNot test m) (unless (test m) (At m) Nowhere) e in
-      ⊎-elim (λ (q : j ≡ m). rw q (met (test m) m Nowhere (b .1) .0)) (λ (q : j < m). all-good m (b .0) j q) (eq-or-lt-of-le {n = j} {m = m} (omega arith))
+      ⊎-elim (λ (q : j ≡ m). rw q (met (test m) some-place (b .1) .0)) (λ (q : j < m). all-good m (b .0) j q) (eq-or-lt-of-le {n = j} {m = m} (omega arith))
 
   -- where one is found, it fails, and all before it pass
   pub found-fails : (m k : ℕ) → firstNot test m ≡ At k → (k < m) × (test k ≡ false) × ((j : ℕ) → j < k → test j ≡ true)
   unfolding firstNot
-  found-fails zero k e = absurd (apart e)
-    where
-      apart : Nowhere ≡ At k → ⊥
-      apart h = let z : _≡_ {A = ℕ} 0 1 = cc in omega arith
+  found-fails zero k e = absurd (some-place (sym e))
   found-fails (suc m) k e = go (firstNot test m) refl e (found-fails m k)
     where
       last : (b : Bool) → test m ≡ b → unless b (At m) Nowhere ≡ At k → (m ≡ k) × (test m ≡ false)

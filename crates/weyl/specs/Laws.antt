@@ -2,7 +2,7 @@
 use mathlib.Core.Path.{_≡_}
 use mathlib.Core.Logic.{_↔_}
 use mathlib.Core.List.{List}
-use Prim.Native.Nat.{ℕ, suc, _+_, _*_, _%_, _<_}
+use Prim.Native.Nat.{ℕ, _+_, _*_, _%_, _<_}
 use Rattle.modular.specs.Modular.{neg}
 use Rattle.modular.specs.Dimension.{Dimension}
 use Rattle.row.specs.Row.{Row, product, power, pairing}

@@ -6,15 +6,15 @@ use native.Mathlib.Nat.{le-antisymm}
 use native.Mathlib.Omega.{arith}
 use borrow.Author.Tests.{lt-ltb, le-ltb, eq-eqb, ne-eqb}
 use borrow.Author.Needs.{needs}
-use Rattle.body.specs.declared.Place.the-variants.{At, Nowhere}
+use Rattle.search.specs.declared.Place.the-variants.{At, Nowhere}
 use Rattle.body.specs.Body.{goodChoice, badChoice}
-use Rattle.body.specs.Search.{firstBad}
-use Rattle.body.proofs.Search.{none-yet, found}
+use Rattle.search.specs.Search.{firstNot}
+use Rattle.search.proofs.Search.{none-yet, found}
 use Rattle.body.proofs.bad_choice.Statement.{statement}
 use Rattle.body.proofs.bad_choice.Tie as tie
 
 abbrev Inv-loop : tie.InvT-loop
-Inv-loop choices measured d count k₀ k = (k ≤ count) × (firstBad (goodChoice d choices) k ≡ Nowhere)
+Inv-loop choices measured d count k₀ k = (k ≤ count) × (firstNot (goodChoice d choices) k ≡ Nowhere)
 
 abbrev μ-loop : tie.MeasureT-loop
 μ-loop choices measured d count k₀ k = count - k
@@ -27,7 +27,7 @@ unfolding badChoice
 returns c = rw (ne-eqb _ _ (c .before .if1 .taken)) (ap At (c .smaller .ensures))
 
 loop-holds : tie.Need-loop-holds Inv-loop μ-loop
-unfolding firstBad
+unfolding firstNot
 loop-holds c = (omega arith, refl)
 
 shared-slice-read-if2 : tie.Need-shared-slice-read-if2 Inv-loop μ-loop

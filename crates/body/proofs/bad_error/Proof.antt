@@ -8,21 +8,21 @@ use native.Mathlib.Omega.{arith}
 use borrow.Author.Tests.{not-true, not-false}
 use borrow.Author.Needs.{needs}
 use Rattle.operation.specs.declared.WeylError.{WeylError}
-use Rattle.body.specs.declared.Place.the-variants.{Nowhere}
+use Rattle.search.specs.declared.Place.the-variants.{Nowhere}
 use Rattle.body.specs.Body.{placeBefore, goodError, badError}
-use Rattle.body.specs.Search.{firstBad}
-use Rattle.body.proofs.Search.{none-yet, found}
+use Rattle.search.specs.Search.{firstNot}
+use Rattle.search.proofs.Search.{none-yet, found}
 use Rattle.body.proofs.bad_error.Statement.{statement}
 use Rattle.body.proofs.bad_error.Tie as tie
 
 abbrev Inv-loop : tie.InvT-loop
-Inv-loop errors count d n end last₀ k₀ last k = (k ≤ end) × (last ≡ placeBefore errors k) × (firstBad (goodError d n count errors) k ≡ Nowhere)
+Inv-loop errors count d n end last₀ k₀ last k = (k ≤ end) × (last ≡ placeBefore errors k) × (firstNot (goodError d n count errors) k ≡ Nowhere)
 
 abbrev μ-loop : tie.MeasureT-loop
 μ-loop errors count d n end last₀ k₀ last k = end - k
 
 loop-holds : tie.Need-loop-holds Inv-loop μ-loop
-unfolding firstBad
+unfolding firstNot
 loop-holds c = (omega arith, refl, refl)
 
 error-at-requires : tie.Need-error-at-requires Inv-loop μ-loop

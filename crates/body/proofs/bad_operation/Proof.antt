@@ -5,21 +5,21 @@ use Prim.Native.Nat.{_-_, _≤_}
 use native.Mathlib.Nat.{le-antisymm}
 use native.Mathlib.Omega.{arith}
 use borrow.Author.Needs.{needs}
-use Rattle.body.specs.declared.Place.the-variants.{Nowhere}
+use Rattle.search.specs.declared.Place.the-variants.{Nowhere}
 use Rattle.body.specs.Body.{goodOperation, badOperation}
-use Rattle.body.specs.Search.{firstBad}
-use Rattle.body.proofs.Search.{none-yet, found}
+use Rattle.search.specs.Search.{firstNot}
+use Rattle.search.proofs.Search.{none-yet, found}
 use Rattle.body.proofs.bad_operation.Statement.{statement}
 use Rattle.body.proofs.bad_operation.Tie as tie
 
 abbrev Inv-loop : tie.InvT-loop
-Inv-loop ops d n count k₀ k = (k ≤ count) × (firstBad (goodOperation d n ops) k ≡ Nowhere)
+Inv-loop ops d n count k₀ k = (k ≤ count) × (firstNot (goodOperation d n ops) k ≡ Nowhere)
 
 abbrev μ-loop : tie.MeasureT-loop
 μ-loop ops d n count k₀ k = count - k
 
 loop-holds : tie.Need-loop-holds Inv-loop μ-loop
-unfolding firstBad
+unfolding firstNot
 loop-holds c = (omega arith, refl)
 
 operation-at-requires : tie.Need-operation-at-requires Inv-loop μ-loop

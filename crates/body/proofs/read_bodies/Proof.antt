@@ -5,7 +5,7 @@ use Prim.Native.Nat.{_/_}
 use lib.ListN.{length}
 use denote.Ref.{now}
 use borrow.Author.Needs.{needs}
-use Rattle.body.specs.declared.Place.the-variants.{Nowhere}
+use Rattle.search.specs.declared.Place.the-variants.{Nowhere}
 use Rattle.body.specs.Body.{badOperation, badError, readBodies}
 use Rattle.body.proofs.read_bodies.Statement.{statement}
 use Rattle.body.proofs.read_bodies.Tie as tie

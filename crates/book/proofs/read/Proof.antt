@@ -10,7 +10,7 @@ use borrow.Author.Tests.{not-true, not-false}
 use borrow.Author.Needs.{needs}
 use Rattle.modular.specs.Dimension.{listed}
 use Rattle.tableau.specs.Tableau.{sized}
-use Rattle.body.specs.declared.Place.the-variants.{Nowhere}
+use Rattle.search.specs.declared.Place.the-variants.{Nowhere}
 use Rattle.body.specs.Body.{at, readBodies}
 use Rattle.book.specs.Book.{headed, dimensionOf, quditsOf, partOf, badContents, readBook}
 use Rattle.book.proofs.Contents.{head-room, Inside, inside}

@@ -1,0 +1,61 @@
+-- What an accepted book hands to a run.
+-- Assumes nothing.
+use mathlib.Core.Path.{_≡_, sym, ap, _∙_}
+use mathlib.Core.Bool.{true, and-eq-true-iff}
+use mathlib.Core.List.{List}
+use Prim.Native.Nat.{ℕ, _/_, _<_, _≤_}
+use lib.Dec.{leb}
+use lib.ListN.{length}
+use borrow.Author.Tests.{leb-true}
+use Rattle.modular.specs.Dimension.{listed}
+use Rattle.circuit.specs.Circuit.{measured, Accepted}
+use Rattle.body.specs.declared.Numbers.{Numbers}
+use Rattle.body.specs.declared.Reading.{Reading}
+use Rattle.body.specs.declared.Reading.the-variants.{Accepted as Taken}
+use Rattle.body.specs.Body.{goodOperation, accepted, told}
+use Rattle.body.proofs.Sound.{no-refusal, all-sound, each-operation}
+use Rattle.book.specs.Book.{dimensionOf, quditsOf, partOf, readBook, bodyOf}
+use Rattle.book.specs.Decoded.{operationsOf, errorsOf, measurementsIn}
+use Rattle.book.proofs.Contents.{all-passed, Inside, inside, by-kind}
+use Rattle.book.proofs.Meaning.{accepted-means}
+
+pub record Handed (s : List ℕ) (d n choices : ℕ) : Type 0 where
+  pub operations : ℕ
+  pub errors : ℕ
+  pub reads : readBook s ≡ accepted d n operations errors choices
+  pub dimension : listed d ≡ true
+  pub qudits : n ≤ 64
+  pub bodies : Inside s
+  pub first : bodyOf s 1 ≡ partOf s 4
+  pub second : bodyOf s 2 ≡ partOf s 10
+  pub third : bodyOf s 3 ≡ partOf s 16
+  pub good : (k : ℕ) → k < length (partOf s 4) / 4 → goodOperation d n (partOf s 4) k ≡ true
+  pub lists : Accepted d n (operationsOf d n (partOf s 4)) (errorsOf (partOf s 10)) (partOf s 16)
+  pub measurements : measurementsIn s d n ≡ choices
+  pub room : length (partOf s 16) ≡ choices
+
+pub handed : (s : List ℕ) {reading : Reading} {b : Numbers} → told reading ≡ readBook s → reading ≡ Taken b → Handed s (b .d) (b .n) (b .choices)
+handed s {reading} {b} e f =
+    let reads = sym e ∙ ap told f in
+    let m = accepted-means s (b .d) (b .n) (b .operations) (b .errors) (b .choices) reads in
+    let none = no-refusal (b .d) (b .n) (b .operations) (b .errors) (b .choices) in
+    let p = all-passed s none reads in
+    let sound = all-sound (dimensionOf s) (quditsOf s) (partOf s 4) (partOf s 10) (partOf s 16) none (p .bodies) in
+    let b1 = by-kind s 1 reads in
+    let b2 = by-kind s 2 reads in
+    let b3 = by-kind s 3 reads in
+    record {
+      operations = b .operations;
+      errors = b .errors;
+      reads = reads;
+      dimension = m .dimension-listed;
+      qudits = leb-true (b .n) 64 (and-eq-true-iff (leb 1 (b .n)) (leb (b .n) 64) .0 (m .qudits-sized) .1);
+      bodies = inside s (p .head) (p .contents);
+      first = b1;
+      second = b2;
+      third = b3;
+      good = λ k h. rw (m .dimension, m .qudits) at (each-operation sound k h);
+      lists = rw (← b1, ← b2, ← b3) (m .lists);
+      measurements = ap (measured (operationsOf (b .d) (b .n) (bodyOf s 1))) (m .operation-count) ∙ m .measurement-count;
+      room = ap length (sym b3) ∙ m .choice-count;
+    }

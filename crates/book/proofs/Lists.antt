@@ -1,0 +1,44 @@
+-- The lists that bodies stand for, entry by entry.
+-- Assumes nothing.
+use mathlib.Core.Path.{_≡_, sym, ap, _∙_}
+use mathlib.Core.Bool.{true, false≢true}
+use mathlib.Core.List.{List}
+use Prim.Native.Nat.{ℕ, _/_, _<_}
+use lib.ListN.{length}
+use Rattle.row.proofs.Fill.{tab-length, tab-get}
+use Rattle.operation.specs.declared.Operation.the-variants.{Measure}
+use Rattle.operation.specs.declared.Step.{Step}
+use Rattle.circuit.specs.Circuit.{opAt, errAt}
+use Rattle.body.specs.declared.Taken.{Taken}
+use Rattle.body.specs.declared.Taken.the-variants.{Next, Refused}
+use Rattle.body.specs.Entry.{operationAt, stepOf, errorAt}
+use Rattle.body.specs.Body.{isGood, goodOperation}
+use Rattle.body.proofs.Steps.{is-step, no-step}
+use Rattle.book.specs.Decoded.{operationIn, operationOf, operationsOf, errorsOf}
+
+module _ (d n : ℕ) (ops : List ℕ) where
+  pub op-count : length (operationsOf d n ops) ≡ length ops / 4
+  unfolding operationsOf
+  op-count = tab-length (operationOf d n ops) (length ops / 4)
+
+  pub op-at : (k : ℕ) → k < length ops / 4 → opAt (operationsOf d n ops) k ≡ operationOf d n ops k
+  unfolding operationsOf
+  op-at k h = tab-get (operationOf d n ops) (length ops / 4) k (Measure 0) h
+
+  -- the step that is taken there
+  pub step-taken : (k : ℕ) {taken : Taken} {step : Step} → k < length ops / 4 → taken ≡ stepOf k (operationAt d n ops k) → taken ≡ Next step
+      → opAt (operationsOf d n ops) k ≡ step .operation
+  step-taken k {taken} {step} h e f = op-at k h ∙ ap operationIn (is-step k (operationAt d n ops k) step (sym e ∙ f))
+
+  pub step-refused : (k : ℕ) {taken : Taken} {number place : ℕ} → goodOperation d n ops k ≡ true → taken ≡ stepOf k (operationAt d n ops k)
+      → taken ≡ Refused number place → ⊥
+  step-refused k good e f = false≢true (sym (ap isGood (no-step k (operationAt d n ops k) _ _ (sym e ∙ f))) ∙ good)
+
+module _ (errors : List ℕ) where
+  pub error-count : length (errorsOf errors) ≡ length errors / 5
+  unfolding errorsOf
+  error-count = tab-length (errorAt errors) (length errors / 5)
+
+  pub error-at : (j : ℕ) → j < length errors / 5 → errAt (errorsOf errors) j ≡ errorAt errors j
+  unfolding errorsOf
+  error-at j h = tab-get (errorAt errors) (length errors / 5) j _ h

@@ -1,0 +1,30 @@
+// What the host software calls: layer, tableau test and direct run, on numbers and byte slices.
+ghost use mathlib.Core.Path.{_≡_};
+ghost use Rattle.layer.specs.Layer.{layerNumber, layerLeaves};
+ghost use Rattle.validity.specs.Validity.{testNumber};
+ghost use Rattle.direct.specs.DirectBook.{directBook};
+use tableau::Answer;
+
+// Lays the zero tableau of n qudits of dimension d, or refuses by 2, 3 or 8.
+#[no_mangle]
+pub extern "C" fn cagvost_layer(t: &mut [u8], d: usize, n: usize) -> Answer
+    ensures { λ r. ⌜ (r ≡ record { number = layerNumber d n (now (t .entry)); place = 0 }) × (now (t .exit) ≡ layerLeaves d n (now (t .entry))) ⌝ }
+{
+    layer::lay(t, d, n)
+}
+
+// Tests the tableau of n qudits of dimension d: 0, or its refusal by 2, 3, 8 or 9.
+#[no_mangle]
+pub extern "C" fn cagvost_test(t: &[u8], d: usize, n: usize) -> Answer
+    ensures { λ r. ⌜ r ≡ record { number = testNumber d n (now (t .entry)); place = 0 } ⌝ }
+{
+    validity::test(t, d, n)
+}
+
+// The direct run of a book from the lent tableau.
+#[no_mangle]
+pub extern "C" fn cagvost_direct_run(book: &[u8], t: &mut [u8], results: &mut [u8]) -> Answer
+    ensures { λ r. ⌜ record { number = r .number; place = r .place; tableau = now (t .exit); results = now (results .exit) } ≡ directBook (now (book .entry)) (now (t .entry)) (now (results .entry)) ⌝ }
+{
+    direct::direct_run(book, t, results)
+}

@@ -1,0 +1,108 @@
+-- At every step the direct run's rows are the frame run's rows, shifted by the frame. So both end alike.
+-- Assumes nothing.
+use mathlib.Core.Path.{_≡_, refl, ap, _∙_}
+use mathlib.Core.List.{List}
+use Prim.Native.Nat.{ℕ, zero, suc, _+_, _%_, _≤_, _<_}
+use native.Mathlib.Nat.{le-refl}
+use native.Mathlib.Omega.{arith}
+use lib.ListN.{length, getD}
+use Rattle.modular.specs.Dimension.{Dimension}
+use Rattle.row.specs.Row.{xOf}
+use Rattle.operation.specs.declared.Operation.{Operation}
+use Rattle.operation.specs.declared.WeylError.{WeylError}
+use Rattle.circuit.specs.Circuit.{opAt, Kind, gate, measures, kind, measured, Accepted}
+use Rattle.validity.specs.Validity.{Valid}
+use Rattle.validity.proofs.Exactly.{valid-tableau}
+use Rattle.look.specs.declared.Looked.{Looked}
+use Rattle.look.specs.Look.{look}
+use Rattle.measurement.proofs.Kept.{gate-keeps-valid, collapse-keeps-valid}
+use Rattle.run.specs.Run.{Run, done, andThen, onward}
+use Rattle.run.specs.Direct.{State, directLook, directKind, directStrike, directStep, directEnd, directRun}
+use Rattle.run.specs.Frame.{Framed, shiftRows, framedLook, framedKind, framedStrike, framedStep, framedLeave, framedEnd, frameRunFrom}
+use Rattle.run.specs.Raised.{carryBy, struckFrame, carried, raised}
+use Rattle.run.proofs.Frames.{Frame, gate-frame, strike-frame}
+use Rattle.run.proofs.Shifts.{before, shifts-at, raised-at}
+use Rattle.carrying.specs.Carrying.{Agree, CarriedFrom}
+use Rattle.carrying.proofs.Rows.{shifted-gate, shifted-strike, shifted-collapse}
+use Rattle.carrying.proofs.Looks.{Both, free, certain, both}
+use Rattle.carrying.proofs.Books.{qudit-in, choice-in, has-choice}
+
+-- both runs, neither refused, with the frame F
+pub data Alike (d n : ℕ) : List ℕ → Run State → Run Framed → Type 0 where
+  alike : {F : List ℕ} (t results : List ℕ) → Frame d n F → Valid d n t
+      → Alike d n F (done (record { rows = shiftRows d n F t; results = results })) (done (record { rows = t; results = results; frame = F }))
+
+module _ (d n : ℕ) (dim : Dimension d) (ops : List Operation) (errors : List WeylError) (choices second : List ℕ) (ac : Accepted d n ops errors choices) where
+  positive : 0 < d
+  positive = omega (arith, dim .low)
+
+  -- The direct run's choice for operation k is the frame run's, raised by the frame F.
+  abbrev Raises : ℕ → List ℕ → Type 0
+  Raises k F = (q : ℕ) → kind (opAt ops k) ≡ measures q → getD second (measured ops k) 0 ≡ (getD choices (measured ops k) 0 + xOf F q) % d
+
+  kind-alike : (k : ℕ) → k < length ops → (F t results : List ℕ) → Frame d n F → Valid d n t → Raises k F → (x : Kind) → kind (opAt ops k) ≡ x
+      → Alike d n (carryBy d n ops errors k x F)
+      (directKind d n second (measured ops k) (record { rows = shiftRows d n F t; results = results }) (opAt ops k) x)
+      (framedKind d n choices (measured ops k) (record { rows = t; results = results; frame = F }) (opAt ops k) x)
+  unfolding directKind framedKind directLook framedLook carryBy
+  kind-alike k l F t results f ok up gate e =
+      rw (shifted-gate d n dim F t (f .powers) (valid-tableau d n t ok) (opAt ops k) (ac .operations k l))
+      (alike _ results (gate-frame d n positive (opAt ops k) F (ac .operations k l) f) (gate-keeps-valid d n dim (opAt ops k) (ac .operations k l) t ok))
+  kind-alike k l F t results f ok up (measures q) e = by (look d n t q) (look d n (shiftRows d n F t) q) (both d n dim t ok F q lq)
+    where
+      lq : q < n
+      lq = qudit-in ac k q l e
+
+      by : (a b : Looked) → Both d n t q F a b
+          → Alike d n F (directLook d n second (measured ops k) q (record { rows = shiftRows d n F t; results = results }) b)
+          (framedLook d n choices (measured ops k) q (record { rows = t; results = results; frame = F }) a)
+      by a b (free i li y) =
+          rw (up q e, shifted-collapse d n q i (getD choices (measured ops k) 0) (omega (arith, dim .low)) lq F t (valid-tableau d n t ok) li)
+          (alike _ _ f (collapse-keeps-valid d n dim t ok q i _ lq (choice-in ac k q l e) y))
+      by a b (certain outcome) = alike t _ f ok
+
+  step-alike : (k : ℕ) → k < length ops → {F : List ℕ} {A : Run State} {B : Run Framed} → Raises k (struckFrame d n ops errors k F) → Alike d n F A B
+      → Alike d n (carryBy d n ops errors k (kind (opAt ops k)) (struckFrame d n ops errors k F))
+      (andThen A (directStep d n ops errors second k))
+      (andThen B (framedStep d n ops errors choices k))
+  unfolding directStep framedStep directStrike framedStrike struckFrame
+  step-alike k l {F} up (alike t results f ok) =
+      rw (shifted-strike d n dim errors (ac .strikes) k F t f (valid-tableau d n t ok) (length errors) (le-refl (length errors)))
+      (kind-alike k l _ t results (strike-frame d n positive errors k F f (length errors)) ok up (kind (opAt ops k)) refl)
+
+  -- from any operation, and any frame
+  pub onward-alike : (from : ℕ) (F t results : List ℕ) → Frame d n F → Valid d n t → (count : ℕ) → from + count ≤ length ops
+      → ((i : ℕ) → i < count → Raises (from + i) (before d n ops errors from F i))
+      → Alike d n (carried d n ops errors from F count)
+      (onward (directStep d n ops errors second) from (record { rows = shiftRows d n F t; results = results }) count)
+      (onward (framedStep d n ops errors choices) from (record { rows = t; results = results; frame = F }) count)
+  unfolding onward carried
+  onward-alike from F t results f ok zero l up = alike t results f ok
+  onward-alike from F t results f ok (suc m) l up =
+      step-alike (from + m) (omega arith) (up m (omega arith))
+      (onward-alike from F t results f ok m (omega arith) (λ i k. up i (omega arith)))
+
+  -- the errors after all operations
+  end-alike : (m : ℕ) (shifts frame : List ℕ) {F : List ℕ} {A : Run State} {B : Run Framed} → Alike d n F A B
+      → Agree n m (andThen A (directEnd d n ops errors second)) (andThen B (framedEnd d n ops errors choices shifts frame))
+  unfolding directEnd framedEnd framedLeave directStrike framedStrike
+  end-alike m shifts frame {F} (alike t results f ok) =
+      rw (shifted-strike d n dim errors (ac .strikes) (length ops) F t f (valid-tableau d n t ok) (length errors) (le-refl (length errors)))
+      (record { struck = _; carried = _; struck-is = refl; carried-is = refl; tableau = λ i l. refl; results = λ i l. refl })
+
+-- The raised choices are so.
+raises : {d n : ℕ} {ops : List Operation} {errors : List WeylError} {choices : List ℕ} → (dim : Dimension d) (ac : Accepted d n ops errors choices) (F : List ℕ) (i : ℕ)
+    → i < length ops
+    → Raises d n dim ops errors choices (raised d n ops errors F choices) ac (0 + i) (before d n ops errors 0 F i)
+unfolding measured
+raises {d} {n} {ops} {errors} {choices} dim ac F i l q e =
+    let j = measured ops (0 + i) in
+    raised-at d n ops errors F choices j (has-choice ac (0 + i) q (omega arith) e)
+    ∙ ap (λ (x : ℕ). (getD choices j 0 + x) % d) (shifts-at d n ops errors 0 F (length ops) i j q l e (omega arith))
+
+pub carried-from : CarriedFrom
+unfolding directRun frameRunFrom
+carried-from d n dim ops errors choices F ac powers len t results shifts frame ok =
+    let second = raised d n ops errors F choices in
+    end-alike d n dim ops errors choices second ac _ shifts frame
+    (onward-alike d n dim ops errors choices second ac 0 F t results (record { powers = powers; len = len }) ok (length ops) (omega arith) (raises dim ac F))

@@ -1,0 +1,12 @@
+-- Demand 3 over decoded lists.
+pub mod Shift
+pub mod Rows
+pub mod Looks
+pub mod Books
+pub mod Sound
+pub mod Fold
+pub mod Told
+pub mod Window
+pub mod Buffers
+pub mod Clean
+pub mod Verdict

@@ -1,0 +1,115 @@
+-- The look at a qudit of a shifted tableau has the same pivot, or an outcome that is more by the frame's X power.
+-- Assumes nothing.
+use mathlib.Core.Path.{_≡_, refl, sym, ap, ap₂, _∙_, subst₂}
+use mathlib.Core.Bool.{Bool}
+use mathlib.Core.List.{List}
+use Prim.Native.Nat.{ℕ, zero, suc, _+_, _*_, _%_, _<_}
+use native.Mathlib.Nat.{mod-lt}
+use native.Mathlib.Omega.{arith}
+use lib.Dec.{eqb}
+use borrow.Author.Tests.{eqb-true}
+use Rattle.congruence.proofs.Congruence.{cong-trans, cong-mul-left, small-cong}
+use Rattle.modular.specs.Modular.{neg}
+use Rattle.modular.specs.Dimension.{Dimension}
+use Rattle.row.specs.Row.{xOf, phaseOf}
+use Rattle.row.specs.Generators.{unit, zWith}
+use Rattle.row.proofs.Fill.{row-phase}
+use Rattle.weyl.proofs.Reading.{neg-small, neg-is}
+use Rattle.search.specs.declared.Place.{Place}
+use Rattle.search.specs.declared.Place.the-variants.{At, Nowhere}
+use Rattle.search.specs.Search.{unless, orElse, firstNot}
+use Rattle.search.proofs.Search.{found-fails, all-good}
+use Rattle.tableau.specs.Tableau.{every}
+use Rattle.validity.specs.Validity.{Valid}
+use Rattle.validity.proofs.Exactly.{valid-tableau}
+use Rattle.look.specs.declared.Look.the-variants.{Free, Certain}
+use Rattle.look.specs.declared.Looked.{Looked}
+use Rattle.look.specs.declared.Looked.the-variants.{Seen}
+use Rattle.look.specs.Look.{stabilizerPower, commutes, pivotOf, weighted, lookBy, look}
+use Rattle.measurement.proofs.View.{reads-at, basis, valid-on}
+use Rattle.measurement.proofs.Combination.{reads-weighted}
+use Rattle.measurement.proofs.Looks.{Commuting}
+use Rattle.measurement.proofs.Certain.{weighted-z, look-certain}
+use Rattle.run.specs.Frame.{shiftRow, shiftRows}
+use Rattle.run.proofs.Frames.{shift-keeps}
+use Rattle.carrying.proofs.Shift.{reads-shift, shift-z}
+use Rattle.carrying.proofs.Rows.{shifted-at, weighted-shifted}
+
+first-same : (p q : ℕ → Bool) (m : ℕ) → ((i : ℕ) → i < m → p i ≡ q i) → firstNot p m ≡ firstNot q m
+unfolding firstNot
+first-same p q zero h = refl
+first-same p q (suc m) h =
+    ap₂ (λ (a : Place) (b : Bool). orElse a (unless b (At m) Nowhere)) (first-same p q m (λ i l. h i (omega arith))) (h m (omega arith))
+
+-- The pivot depends on the stabilizers' X powers alone.
+pub pivot-same : (n : ℕ) (t u : List ℕ) (q : ℕ) → ((i : ℕ) → i < n → stabilizerPower n t q i ≡ stabilizerPower n u q i) → pivotOf n t q ≡ pivotOf n u q
+unfolding pivotOf
+pivot-same n t u q h = first-same (commutes n t q) (commutes n u q) n (λ i l. ap (λ (x : ℕ). eqb x 0) (h i l))
+
+-- −(−x)
+neg-neg : (e : ℕ) {x : ℕ} → x < suc e → x ≡ neg (suc e) (neg (suc e) x)
+neg-neg e {x} l =
+    sym
+    (small-cong (cong-trans (neg-is e _) (cong-trans (cong-mul-left e (neg-is e x)) (record { p = x; q = e * x; eq = omega arith })))
+    (neg-small (omega arith) _)
+    l)
+
+z-phase : (n q r : ℕ) → phaseOf n (zWith n q r) ≡ r
+unfolding zWith
+z-phase n q r = row-phase n (unit (n + q)) r
+
+-- what is seen in t, and what in t shifted by F
+pub data Both (d n : ℕ) (t : List ℕ) (q : ℕ) (F : List ℕ) : Looked → Looked → Type 0 where
+  free : (k : ℕ) → k < n → look d n t q ≡ Seen (Free k) → Both d n t q F (Seen (Free k)) (Seen (Free k))
+  certain : (outcome : ℕ) → Both d n t q F (Seen (Certain outcome)) (Seen (Certain ((outcome + xOf F q) % d)))
+
+module _ (e n : ℕ) (dim : Dimension (suc e)) (t : List ℕ) (ok : Valid (suc e) n t) (F : List ℕ) where
+  abbrev d : ℕ
+  d = suc e
+
+  abbrev shifted : List ℕ
+  shifted = shiftRows d n F t
+
+  -- A shifted tableau is valid: its powers are the same.
+  valid-shifted : Valid d n shifted
+  valid-shifted =
+      valid-on dim (basis ok) {f = every (shiftRow d n F)} (shift-keeps d n F) t (ok .room) (λ i l. reads-shift e n F (reads-at ok i l))
+
+  module _ (q : ℕ) (lq : q < n) where
+    alike : (i : ℕ) → i < n → stabilizerPower n t q i ≡ stabilizerPower n shifted q i
+    alike i l = sym (shifted-at d n F t (valid-tableau d n t ok) (n + i) q (omega arith) (omega arith))
+
+    module _ (c : Commuting n t q) where
+      abbrev outcome : ℕ
+      outcome = neg d (phaseOf n (weighted d n t q))
+
+      weighed : weighted d n shifted q ≡ zWith n q (neg d ((outcome + xOf F q) % d))
+      weighed =
+          weighted-shifted d n F t (valid-tableau d n t ok) (omega arith) q lq
+          ∙ ap (shiftRow d n F) (weighted-z dim ok q lq c ∙ ap (zWith n q) (neg-neg e (reads-weighted ok (omega arith) q .small (2 * n) (omega arith))))
+          ∙ shift-z d n F q outcome lq (omega (arith, dim .low))
+
+      shifted-certain : look d n shifted q ≡ Seen (Certain ((outcome + xOf F q) % d))
+      shifted-certain =
+          look-certain dim valid-shifted q lq (λ i l. sym (alike i l) ∙ c i l)
+          ∙ ap (λ (x : ℕ). Seen (Certain (neg d x))) (ap (phaseOf n) weighed ∙ z-phase n q _)
+          ∙ ap (λ (x : ℕ). Seen (Certain x)) (sym (neg-neg e (mod-lt _ (omega arith))))
+
+    both-at : Both d n t q F (look d n t q) (look d n shifted q)
+    unfolding look pivotOf
+    both-at = go (pivotOf n t q) refl
+      where
+        go : (p : Place) → pivotOf n t q ≡ p → Both (suc e) n t q F (look (suc e) n t q) (look (suc e) n (shiftRows (suc e) n F t) q)
+        go (At k) x =
+            let l = found-fails (commutes n t q) n k x .0 in
+            let y : look (suc e) n t q ≡ Seen (Free k) = ap (lookBy (suc e) n t q) x in
+            let z : look (suc e) n (shiftRows (suc e) n F t) q ≡ Seen (Free k) =
+            ap (lookBy (suc e) n (shiftRows (suc e) n F t) q) (sym (pivot-same n t (shiftRows (suc e) n F t) q alike) ∙ x) in
+            subst₂ (Both (suc e) n t q F) (sym y) (sym z) (free k l y)
+        go Nowhere x =
+            let c : Commuting n t q = λ i l. eqb-true _ 0 (all-good (commutes n t q) n x i l) in
+            subst₂ (Both (suc e) n t q F) (sym (look-certain dim ok q lq c)) (sym (shifted-certain c)) (certain _)
+
+pub both : (d n : ℕ) → Dimension d → (t : List ℕ) → Valid d n t → (F : List ℕ) (q : ℕ) → q < n → Both d n t q F (look d n t q) (look d n (shiftRows d n F t) q)
+both zero n dim t ok F q l = absurd (omega (arith, dim .low))
+both (suc e) n dim t ok F q l = both-at e n dim t ok F q l

@@ -1,0 +1,94 @@
+-- Demand 3 over decoded lists: a Weyl error, wherever it strikes, may be carried to the end. The statements are proved in proofs/.
+use mathlib.Core.Path.{_≡_}
+use mathlib.Core.Bool.{true}
+use mathlib.Core.Logic.{_↔_}
+use mathlib.Core.List.{List, [], _++_}
+use Prim.Native.Nat.{ℕ, _+_, _*_, _%_, _<_, _≤_}
+use lib.ListN.{length, getD, drop}
+use Rattle.modular.specs.Dimension.{Dimension}
+use Rattle.row.specs.Row.{Powers}
+use Rattle.operation.specs.declared.Operation.{Operation}
+use Rattle.operation.specs.declared.WeylError.{WeylError}
+use Rattle.circuit.specs.Circuit.{measured, Accepted}
+use Rattle.validity.specs.Validity.{Valid}
+use Rattle.run.specs.Run.{Run, done, onward}
+use Rattle.run.specs.Direct.{State, directStep, directRun}
+use Rattle.run.specs.Frame.{Ended, noFrame, shiftRows, verdictOf, frameRunFrom, frameRun}
+use Rattle.run.specs.Raised.{finalFrame, resultShifts, raised}
+
+-- Validity is kept by every step of the direct run, and number 10 never comes.
+pub record Sound (d n : ℕ) (A : Run State) : Type 0 where
+  pub state : State
+  pub is : A ≡ done state
+  pub valid : Valid d n (state .rows)
+
+abbrev pub DirectSound : Type 0
+DirectSound = (d n : ℕ) → Dimension d → (ops : List Operation) (errors : List WeylError) (choices : List ℕ)
+    → Accepted d n ops errors choices
+    → (st : State) → Valid d n (st .rows) → (count : ℕ) → count ≤ length ops
+    → Sound d n (onward (directStep d n ops errors choices) 0 st count)
+
+abbrev pub DirectEnds : Type 0
+DirectEnds = (d n : ℕ) → Dimension d → (ops : List Operation) (errors : List WeylError) (choices : List ℕ)
+    → Accepted d n ops errors choices
+    → (st : State) → Valid d n (st .rows) → Sound d n (directRun d n ops errors choices st)
+
+-- Both runs end without a refusal; the needed bytes of the tableaus, and the two bytes per measurement, are equal.
+pub record Agree (n measurements : ℕ) (A : Run State) (B : Run Ended) : Type 0 where
+  pub struck : State
+  pub carried : Ended
+  pub struck-is : A ≡ done struck
+  pub carried-is : B ≡ done carried
+  pub tableau : (i : ℕ) → i < 2 * n * (2 * n + 1) → getD (struck .rows) i 0 ≡ getD (carried .rows) i 0
+  pub results : (i : ℕ) → i < 2 * measurements → getD (struck .results) i 0 ≡ getD (carried .results) i 0
+
+-- The direct run of the raised choices and the frame run of the choices, each on its own copy of a valid tableau.
+abbrev pub Carried : Type 0
+Carried = (d n : ℕ) → Dimension d → (ops : List Operation) (errors : List WeylError) (choices : List ℕ)
+    → Accepted d n ops errors choices
+    → (t t' results results' shifts frame : List ℕ)
+    → Valid d n t
+    → 2 * n * (2 * n + 1) ≤ length t'
+    → ((i : ℕ) → i < 2 * n * (2 * n + 1) → getD t' i 0 ≡ getD t i 0)
+    → 2 * measured ops (length ops) ≤ length results
+    → 2 * measured ops (length ops) ≤ length results'
+    → Agree n (measured ops (length ops))
+    (directRun d n ops errors (raised d n ops errors (noFrame n) choices) (record { rows = t'; results = results' }))
+    (frameRun d n ops errors choices (record { rows = t; results = results }) shifts frame)
+
+-- The same from any starting frame F: the direct run then starts from the rows shifted by F.
+abbrev pub CarriedFrom : Type 0
+CarriedFrom = (d n : ℕ) → Dimension d → (ops : List Operation) (errors : List WeylError) (choices F : List ℕ)
+    → Accepted d n ops errors choices → Powers d n F → length F ≡ 2 * n
+    → (t results shifts frame : List ℕ)
+    → Valid d n t
+    → Agree n (measured ops (length ops))
+    (directRun d n ops errors (raised d n ops errors F choices) (record { rows = shiftRows d n F t; results = results }))
+    (frameRunFrom d n ops errors choices F (record { rows = t; results = results }) shifts frame)
+
+-- The frame run is the clean run, without errors, with the carried frame G added: to the rows, and to each result its shift.
+pub record CleanPlus (d n : ℕ) (ops : List Operation) (errors : List WeylError) (F frame : List ℕ) (A : Run State) (B : Run Ended) : Type 0 where
+  pub clean : State
+  pub framed : Ended
+  pub clean-is : A ≡ done clean
+  pub framed-is : B ≡ done framed
+  pub final : framed .frame ≡ finalFrame d n ops errors F ++ drop (2 * n) frame
+  pub rows : framed .rows ≡ shiftRows d n (finalFrame d n ops errors F) (clean .rows)
+  pub outcomes : (j : ℕ) → j < measured ops (length ops)
+      → getD (framed .results) (2 * j) 0 ≡ (getD (clean .results) (2 * j) 0 + getD (resultShifts d n ops errors 0 F (length ops)) j 0) % d
+  pub marks : (j : ℕ) → j < measured ops (length ops) → getD (framed .results) (2 * j + 1) 0 ≡ getD (clean .results) (2 * j + 1) 0
+
+abbrev pub FrameIsClean : Type 0
+FrameIsClean = (d n : ℕ) → Dimension d → (ops : List Operation) (errors : List WeylError) (choices F : List ℕ)
+    → Accepted d n ops errors choices → Powers d n F → length F ≡ 2 * n
+    → (t results shifts frame : List ℕ)
+    → Valid d n t
+    → 2 * measured ops (length ops) ≤ length results
+    → CleanPlus d n ops errors F frame
+    (directRun d n ops [] choices (record { rows = t; results = results }))
+    (frameRunFrom d n ops errors choices F (record { rows = t; results = results }) shifts frame)
+
+-- On a valid tableau the verdict is clean exactly if the final frame is 0.
+abbrev pub CleanExactly : Type 0
+CleanExactly = (d n : ℕ) → Dimension d → (t F : List ℕ) → Valid d n t → Powers d n F
+    → (verdictOf d n F t ≡ 0) ↔ ((s : ℕ) → s < 2 * n → getD F s 0 ≡ 0)

@@ -1,0 +1,1 @@
+// Errors carried to the end are errors struck where they stand; no code.

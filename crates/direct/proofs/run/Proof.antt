@@ -1,0 +1,117 @@
+-- `direct::run` meets its contract.
+-- Assumes nothing.
+use mathlib.Core.Path.{_≡_, refl}
+use Prim.Native.Nat.{_-_, _<_, _≤_}
+use native.Mathlib.Omega.{arith}
+use denote.Ref.{now}
+use lib.ListN.{length}
+use borrow.Author.Needs.{needs}
+use Rattle.book.specs.Decoded.{operationsOf, errorsOf}
+use Rattle.book.proofs.Lists.{op-count}
+use Rattle.direct.proofs.Steps.{Going, going-start, going-on, going-stops, going-ends}
+use Rattle.direct.proofs.run.Statement.{statement}
+use Rattle.direct.proofs.run.Tie as tie
+
+abbrev Inv-loop : tie.InvT-loop
+Inv-loop t₀ results₀ ops errors choices d n count at₀ k₀ t results at k =
+    Going d n (operationsOf d n ops) (errorsOf errors) choices (record { rows = t₀; results = results₀ }) k at t results × (k ≤ count)
+    × (length t ≡ length t₀)
+
+abbrev μ-loop : tie.MeasureT-loop
+μ-loop t₀ results₀ ops errors choices d n count at₀ k₀ t results at k = count - k
+
+loop-holds : tie.Need-loop-holds Inv-loop μ-loop
+loop-holds c =
+    let s = c .before .before .before .before .before in
+    (going-start _ _ _ _ _ _ (s .pre .5), omega arith, refl)
+
+advance-requires : tie.Need-advance-requires Inv-loop μ-loop
+advance-requires c κs =
+    let l = c .before .before .before in
+    let s = l .before .before .before .before .before .before in
+    let g = l .loop .inv .0 in
+    (c .before .before .loop-test .taken, s .pre .0, s .pre .1, s .pre .2, s .pre .3, g .reached, g .count, omega (arith, g .room), g .rows)
+
+enum-known-advanced : tie.Need-enum-known-advanced Inv-loop μ-loop
+enum-known-advanced c = search needs
+
+enum-known-advanced-2 : tie.Need-enum-known-advanced-2 Inv-loop μ-loop
+enum-known-advanced-2 c = search needs
+
+same-length : tie.Need-same-length Inv-loop μ-loop
+same-length c = search needs
+
+same-length-2 : tie.Need-same-length-2 Inv-loop μ-loop
+same-length-2 c = search needs
+
+returns : tie.Need-returns Inv-loop μ-loop
+returns c =
+    let v = c .before .before .before .before .before .before .before in
+    let l = v .before .before .before .before in
+    let a = l .before .before .before .before .before .before .args in
+    let ops = operationsOf (a .d) (a .n) (now (a .ops)) in
+    let answer = c .before .advanced2 .given in
+    let in-list : l .loop .k < length ops = omega (arith, op-count (a .d) (a .n) (now (a .ops))) in
+    going-stops (a .d) (a .n) ops (errorsOf (now (a .errors))) (now (a .choices)) (l .loop .inv .0) (answer .0 .0) (answer .0 .1 .0) in-list
+    (rw (answer .1) at (v .advance .ensures))
+
+add-k : tie.Need-add-k Inv-loop μ-loop
+add-k c = search needs
+
+loop-less : tie.Need-loop-less Inv-loop μ-loop
+loop-less c = search needs
+
+loop-again : tie.Need-loop-again Inv-loop μ-loop
+loop-again c =
+    let v = c .before .before .before .before .before .before .before in
+    let l = v .before .before .before .before in
+    let a = l .before .before .before .before .before .before .args in
+    let ops = operationsOf (a .d) (a .n) (now (a .ops)) in
+    let answer = c .before .advanced .given in (
+      going-on (a .d) (a .n) ops (errorsOf (now (a .errors))) (now (a .choices)) (l .loop .inv .0) (answer .0 .0) (rw (answer .1) at (v .advance .ensures)),
+      omega arith,
+      omega arith,
+    )
+
+strike-requires : tie.Need-strike-requires Inv-loop μ-loop
+strike-requires c κs =
+    let l = c .before .before in
+    let s = l .before .before .before .before .before .before in
+    let g = l .loop .inv .0 in
+    (s .pre .0, s .pre .1, g .rows, g .reached, s .pre .3 .strikes, s .pre .3 .in-order)
+
+same-length-3 : tie.Need-same-length-3 Inv-loop μ-loop
+same-length-3 c = search needs
+
+same-length-4 : tie.Need-same-length-4 Inv-loop μ-loop
+same-length-4 c = search needs
+
+returns-2 : tie.Need-returns-2 Inv-loop μ-loop
+returns-2 c =
+    let k = c .before .before in
+    let l = k .before .before .before in
+    let a = l .before .before .before .before .before .before .args in
+    let ops = operationsOf (a .d) (a .n) (now (a .ops)) in
+    going-ends (a .d) (a .n) ops (errorsOf (now (a .errors))) (now (a .choices)) (l .loop .inv .0) (omega (arith, op-count (a .d) (a .n) (now (a .ops))))
+    (omega (arith, op-count (a .d) (a .n) (now (a .ops)))) (k .strike .ensures .0)
+
+pub run-spec : {M : Type 1} → statement M
+run-spec =
+    tie.close
+    (tie.spec
+    Inv-loop
+    μ-loop
+    loop-holds
+    advance-requires
+    enum-known-advanced
+    enum-known-advanced-2
+    same-length
+    same-length-2
+    returns
+    add-k
+    loop-less
+    loop-again
+    strike-requires
+    same-length-3
+    same-length-4
+    returns-2)

@@ -1,0 +1,42 @@
+-- The direct run of a book: what is returned, and what is left in the buffers.
+use mathlib.Core.Bool.{Bool, _&&_}
+use mathlib.Core.List.{List}
+use Prim.Native.Nat.{ℕ, _+_, _*_}
+use lib.Dec.{leb}
+use lib.ListN.{length}
+use Rattle.search.specs.Search.{unless}
+use Rattle.validity.specs.Validity.{valid}
+use Rattle.body.specs.Body.{Told, refused, accepted}
+use Rattle.book.specs.Book.{readBook}
+use Rattle.book.specs.Decoded.{opsIn, errorsIn, choicesIn, measurementsIn}
+use Rattle.run.specs.Run.{Run, done}
+use Rattle.run.specs.Run as run
+use Rattle.run.specs.Direct.{State, directRun}
+
+pub record Left : Type 0 where
+  pub number : ℕ
+  pub place : ℕ
+  pub tableau : List ℕ
+  pub results : List ℕ
+
+-- 8: a buffer is shorter than it must be. Needed: tableau 2n(2n+1) bytes; results 2 per measurement.
+abbrev pub roomy : ℕ → ℕ → List ℕ → List ℕ → Bool
+roomy n measurements t results = leb (2 * n * (2 * n + 1)) (length t) && leb (2 * measurements) (length results)
+
+-- Success returns 0 and the number of measurements. 10: a certain product isn't Z on q; the tableau is as before that
+-- measurement, and the results so far are written.
+abbrev pub ended : ℕ → Run State → Left
+ended measurements (run.refused j t results) = record { number = 10; place = j; tableau = t; results = results }
+ended measurements (done st) = record { number = 0; place = measurements; tableau = st .rows; results = st .results }
+
+-- 1 to 7, then 8, then 9
+unfoldable pub directTold : List ℕ → List ℕ → List ℕ → Told → Left
+directTold s t results (refused number place) = record { number = number; place = place; tableau = t; results = results }
+directTold s t results (accepted d n operations errors choices) =
+    unless (roomy n (measurementsIn s d n) t results) (record { number = 8; place = 0; tableau = t; results = results })
+    (unless (valid d n t) (record { number = 9; place = 0; tableau = t; results = results })
+    (ended (measurementsIn s d n)
+    (directRun d n (opsIn s d n) (errorsIn s) (choicesIn s) (record { rows = t; results = results }))))
+
+unfoldable pub directBook : List ℕ → List ℕ → List ℕ → Left
+directBook s t results = directTold s t results (readBook s)

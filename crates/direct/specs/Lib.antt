@@ -1,0 +1,2 @@
+pub mod DirectBook
+pub mod Progress

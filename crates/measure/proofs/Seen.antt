@@ -1,0 +1,37 @@
+-- What is seen fits: the pivot of a free measurement is one of the n stabilizers, and a certain outcome is below d.
+-- Assumes nothing.
+use mathlib.Core.Path.{_≡_, refl, subst}
+use mathlib.Core.Bool.{Bool, true, false, cond}
+use mathlib.Core.List.{List}
+use Prim.Native.Nat.{ℕ, _<_}
+use Rattle.modular.specs.Modular.{neg}
+use Rattle.modular.proofs.Residue.{neg-less}
+use Rattle.row.specs.Row.{phaseOf}
+use Rattle.search.specs.declared.Place.{Place}
+use Rattle.search.specs.declared.Place.the-variants.{At, Nowhere}
+use Rattle.search.proofs.Search.{found-fails}
+use Rattle.look.specs.declared.Look.the-variants.{Free, Certain}
+use Rattle.look.specs.declared.Looked.{Looked}
+use Rattle.look.specs.declared.Looked.the-variants.{Seen, NotZ}
+use Rattle.look.specs.Look.{commutes, pivotOf, weighted, isZ, outcomeOf, lookBy, look}
+
+abbrev pub Fits : ℕ → ℕ → Looked → Type 0
+Fits d n (Seen (Free k)) = k < n
+Fits d n (Seen (Certain outcome)) = outcome < d
+Fits d n NotZ = Unit {0}
+
+outcome-fits : (d n q : ℕ) (v : List ℕ) → 0 < d → Fits d n (outcomeOf d n q v)
+unfolding outcomeOf
+outcome-fits d n q v h = by (isZ n q v)
+  where
+    by : (b : Bool) → Fits d n (cond b (Seen (Certain (neg d (phaseOf n v)))) NotZ)
+    by true = neg-less d (phaseOf n v) h
+    by false = record {}
+
+pub look-fits : (d n : ℕ) (t : List ℕ) (q : ℕ) {seen : Looked} → 0 < d → look d n t q ≡ seen → Fits d n seen
+unfolding look pivotOf
+look-fits d n t q h e = subst (Fits d n) e (by (pivotOf n t q) refl)
+  where
+    by : (p : Place) → pivotOf n t q ≡ p → Fits d n (lookBy d n t q p)
+    by (At k) e = found-fails (commutes n t q) n k e .0
+    by Nowhere e = outcome-fits d n q (weighted d n t q) h

@@ -1,0 +1,60 @@
+-- Frames stay 2n powers below d, and rows with shifted phases stay rows.
+-- Assumes nothing.
+use mathlib.Core.Path.{_≡_, _∙_}
+use mathlib.Core.Bool.{Bool, true, false, cond}
+use mathlib.Core.List.{List}
+use Prim.Native.Nat.{ℕ, zero, suc, _+_, _*_, _<_}
+use native.Mathlib.Nat.{mod-lt}
+use lib.Dec.{eqb}
+use lib.ListN.{length, length-set}
+use Rattle.row.specs.Row.{Powers, Row}
+use Rattle.row.proofs.Laws.{powers-of}
+use Rattle.tableau.specs.Tableau.{Tableau, row, every}
+use Rattle.tableau.proofs.Parts.{Keeps, tableau-row, on-tableau}
+use Rattle.operation.specs.declared.Operation.{Operation}
+use Rattle.operation.specs.declared.WeylError.{WeylError}
+use Rattle.operation.specs.Operation.{allowed}
+use Rattle.operation.specs.Gate.{gateFrame}
+use Rattle.operation.specs.Error.{errorFrame}
+use Rattle.operation.proofs.Stores.{row-phase}
+use Rattle.operation.proofs.Gate.{gate-powers-length, gate-powers}
+use Rattle.operation.proofs.Error.{error-frame-length, error-powers}
+use Rattle.circuit.specs.Circuit.{errAt}
+use Rattle.run.specs.Frame.{strikeFrame, shiftRow, shiftRows}
+
+-- a frame of n qudits
+pub record Frame (d n : ℕ) (F : List ℕ) : Type 0 where
+  pub powers : Powers d n F
+  pub len : length F ≡ 2 * n
+
+module _ (d n : ℕ) (low : 0 < d) where
+  pub error-frame : (e : WeylError) (F : List ℕ) → Frame d n F → Frame d n (errorFrame d n e F)
+  error-frame e F f = record { powers = error-powers d n e F low (f .powers); len = error-frame-length d n e F ∙ f .len }
+
+  pub gate-frame : (op : Operation) (F : List ℕ) → allowed d n op ≡ true → Frame d n F → Frame d n (gateFrame d n op F)
+  gate-frame op F h f = record { powers = gate-powers d n low op F h (f .powers); len = gate-powers-length d n op F ∙ f .len }
+
+  pub strike-frame : (errors : List WeylError) (k : ℕ) (F : List ℕ) → Frame d n F → (j : ℕ) → Frame d n (strikeFrame d n errors k F j)
+  unfolding strikeFrame
+  strike-frame errors k F f zero = f
+  strike-frame errors k F f (suc j) = by (eqb (errAt errors j .place) k) (strike-frame errors k F f j)
+    where
+      G : List ℕ
+      G = strikeFrame d n errors k F j
+
+      by : (b : Bool) → Frame d n G → Frame d n (cond b (errorFrame d n (errAt errors j) G) G)
+      by true g = error-frame (errAt errors j) G g
+      by false g = g
+
+module _ (d n : ℕ) (F : List ℕ) where
+  pub shift-keeps : Keeps (2 * n + 1) (every (shiftRow d n F))
+  unfolding shiftRow
+  shift-keeps = record { keeps = λ i v l. length-set v (2 * n) _ ∙ l }
+
+  pub shift-row : (v : List ℕ) → 0 < d → Row d n v → Row d n (shiftRow d n F v)
+  unfolding shiftRow
+  shift-row v low r = row-phase (powers-of r) (r .len) (mod-lt _ low)
+
+  pub shift-tableau : (t : List ℕ) → 0 < d → Tableau d n t → Tableau d n (shiftRows d n F t)
+  shift-tableau t low h =
+      on-tableau d n (every (shiftRow d n F)) shift-keeps t h (λ i l. shift-row (row n t i) low (tableau-row d n t h i l))

@@ -1,0 +1,7 @@
+-- Laws of the two runs' definitions.
+pub mod Onward
+pub mod Strikes
+pub mod Frames
+pub mod Results
+pub mod Shifts
+pub mod Worked

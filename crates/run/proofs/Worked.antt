@@ -1,0 +1,72 @@
+-- Worked runs, for d = 3. Rows are the X powers, the Z powers and the phase.
+-- Assumes nothing.
+use mathlib.Core.Path.{_≡_, refl}
+use mathlib.Core.List.{List, [], _∷_}
+use Prim.Native.Nat.{ℕ}
+use Rattle.modular.specs.Dimension.{inverse, inverseBelow}
+use Rattle.row.specs.Row.{tab, rowOf, dot, product, power, pairing}
+use Rattle.row.specs.Generators.{zWith}
+use Rattle.weyl.specs.Scalar.{scalar}
+use Rattle.search.specs.Search.{all, firstNot}
+use Rattle.tableau.specs.Tableau.{part, put, eachRow}
+use Rattle.operation.specs.declared.Operation.{Operation}
+use Rattle.operation.specs.declared.Operation.the-variants.{Fourier, Sum, Measure}
+use Rattle.operation.specs.declared.WeylError.{WeylError}
+use Rattle.operation.specs.Gate.{gatePowers, gatePhase, gateRow}
+use Rattle.operation.specs.Error.{errorRow, errorFrame}
+use Rattle.circuit.specs.Circuit.{measured}
+use Rattle.look.specs.Look.{pivotOf, combination, weighted, isZ, outcomeOf, look}
+use Rattle.collapse.specs.Collapse.{collapseRow, collapse}
+use Rattle.run.specs.Run.{done, onward, noted}
+use Rattle.run.specs.Direct.{strike, directLook, directKind, directStrike, directStep, directEnd, directRun}
+use Rattle.run.specs.Frame.{Ended, noFrame, strikeFrame, shiftRow, verdictOf, framedLook, framedKind, framedStrike, framedStep, framedLeave, framedEnd, frameRunFrom, frameRun}
+use Rattle.run.specs.Raised.{carryBy, struckFrame, carried, shiftBy, resultShifts, raised}
+
+-- The frame run leaves `end` and, with the raised choices, the direct run the same rows and results. Nothing else is in the buffers.
+record Both (n : ℕ) (ops : List Operation) (errors : List WeylError) (choices second rows results : List ℕ) (end : Ended) : Type 0 where
+  framed : frameRun 3 n ops errors choices (record { rows = rows; results = results }) [] [] ≡ done end
+  raises : raised 3 n ops errors (noFrame n) choices ≡ second
+  struck : directRun 3 n ops errors second (record { rows = rows; results = results }) ≡ done (record { rows = end .rows; results = end .results })
+
+-- Fourier 0, SUM 0 1, then both qudits are measured; X on qudit 1 before operation 2; choices 2 and 0. The first result is free,
+-- the second certain.
+abbrev Book : Type 0
+Book = Both 2 (Fourier 0 ∷ Sum 0 1 ∷ Measure 0 ∷ Measure 1 ∷ []) (record { place = 2; qudit = 1; p = 1; s = 0 } ∷ []) (2 ∷ 0 ∷ []) (2 ∷ 1 ∷ [])
+    (1 ∷ 0 ∷ 0 ∷ 0 ∷ 0
+    ∷ 0 ∷ 1 ∷ 0 ∷ 0 ∷ 0
+    ∷ 0 ∷ 0 ∷ 1 ∷ 0 ∷ 0
+    ∷ 0 ∷ 0 ∷ 0 ∷ 1 ∷ 0 ∷ [])
+    (9 ∷ 9 ∷ 9 ∷ 9 ∷ [])
+    (record {
+      rows =
+          1 ∷ 1 ∷ 0 ∷ 0 ∷ 0
+          ∷ 0 ∷ 1 ∷ 0 ∷ 0 ∷ 0
+          ∷ 0 ∷ 0 ∷ 1 ∷ 0 ∷ 1
+          ∷ 0 ∷ 0 ∷ 2 ∷ 1 ∷ 2 ∷ [];
+      results = 2 ∷ 1 ∷ 0 ∷ 0 ∷ [];
+      shifts = 0 ∷ 0 ∷ 0 ∷ 2 ∷ [];
+      frame = 0 ∷ 1 ∷ 0 ∷ 0 ∷ [];
+      verdict = 1;
+    })
+
+-- One qudit: X before the only operation, Z after it.
+abbrev Ends : Type 0
+Ends = Both 1 (Fourier 0 ∷ []) (record { place = 0; qudit = 0; p = 1; s = 0 } ∷ record { place = 1; qudit = 0; p = 0; s = 1 } ∷ []) [] []
+    (1 ∷ 0 ∷ 0 ∷ 0 ∷ 1 ∷ 0 ∷ [])
+    []
+    (record { rows = 0 ∷ 1 ∷ 0 ∷ 2 ∷ 0 ∷ 1 ∷ []; results = []; shifts = 0 ∷ 1 ∷ []; frame = 0 ∷ 2 ∷ []; verdict = 1 })
+
+-- A certain measurement takes its choice, so the free one takes the second; X just before it raises that.
+abbrev Free : Type 0
+Free = Both 1 (Measure 0 ∷ Fourier 0 ∷ Measure 0 ∷ []) (record { place = 2; qudit = 0; p = 1; s = 0 } ∷ []) (1 ∷ 2 ∷ []) (1 ∷ 0 ∷ [])
+    (1 ∷ 0 ∷ 0 ∷ 0 ∷ 1 ∷ 0 ∷ [])
+    (9 ∷ 9 ∷ 9 ∷ 9 ∷ [])
+    (record { rows = 1 ∷ 0 ∷ 0 ∷ 0 ∷ 1 ∷ 0 ∷ []; results = 0 ∷ 0 ∷ 0 ∷ 1 ∷ []; shifts = 0 ∷ 2 ∷ []; frame = 1 ∷ 0 ∷ []; verdict = 1 })
+
+worked : Book × Ends × Free
+unfolding onward noted measured frameRun frameRunFrom framedStep framedKind framedLook framedStrike framedEnd framedLeave verdictOf shiftRow strikeFrame errorFrame raised resultShifts shiftBy carried carryBy struckFrame directRun directStep directKind directLook directStrike directEnd strike errorRow look pivotOf firstNot combination weighted isZ outcomeOf all collapse collapseRow eachRow part put product power pairing scalar zWith rowOf tab dot gateRow gatePowers gatePhase inverse inverseBelow
+worked = (
+  record { framed = refl; raises = refl; struck = refl },
+  record { framed = refl; raises = refl; struck = refl },
+  record { framed = refl; raises = refl; struck = refl },
+)

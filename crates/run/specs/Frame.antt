@@ -1,0 +1,120 @@
+-- The frame, and the frame run.
+use mathlib.Core.Bool.{Bool, cond}
+use mathlib.Core.List.{List, _++_}
+use Prim.Native.Nat.{ℕ, zero, suc, _+_, _*_, _%_}
+use lib.Dec.{eqb}
+use lib.ListN.{length, getD, drop, replicate}
+use Rattle.row.specs.Row.{xOf, phaseOf, tab, pairing}
+use Rattle.search.specs.Search.{all}
+use Rattle.tableau.specs.Tableau.{row, onRows, every}
+use Rattle.operation.specs.declared.Operation.{Operation}
+use Rattle.operation.specs.declared.WeylError.{WeylError}
+use Rattle.operation.specs.Gate.{withPhase, gateRows, gateFrame}
+use Rattle.operation.specs.Error.{errorFrame}
+use Rattle.circuit.specs.Circuit.{opAt, errAt, Kind, gate, measures, kind, measured}
+use Rattle.look.specs.declared.Look.the-variants.{Free, Certain}
+use Rattle.look.specs.declared.Looked.{Looked}
+use Rattle.look.specs.declared.Looked.the-variants.{Seen, NotZ}
+use Rattle.look.specs.Look.{look}
+use Rattle.collapse.specs.Collapse.{collapse}
+use Rattle.run.specs.Run.{Run, refused, done, andThen, onward, noted}
+use Rattle.run.specs.Direct.{State}
+
+-- One X power and one Z power per qudit, 0 at first.
+abbrev pub noFrame : ℕ → List ℕ
+noFrame n = replicate (2 * n) 0
+
+-- the errors of place k among the first j entries, taken into the frame
+unfoldable pub strikeFrame : ℕ → ℕ → List WeylError → ℕ → List ℕ → ℕ → List ℕ
+strikeFrame d n errors k F zero = F
+strikeFrame d n errors k F (suc j) =
+    cond (eqb (errAt errors j .place) k) (errorFrame d n (errAt errors j) (strikeFrame d n errors k F j)) (strikeFrame d n errors k F j)
+
+-- Each row's shift is the pairing of the frame with that row, and is added to its phase.
+abbrev pub shiftAt : ℕ → ℕ → List ℕ → List ℕ → ℕ → ℕ
+shiftAt d n F t i = pairing d n F (row n t i)
+
+unfoldable pub shiftRow : ℕ → ℕ → List ℕ → List ℕ → List ℕ
+shiftRow d n F v = withPhase n ((phaseOf n v + pairing d n F v) % d) v
+
+abbrev pub shiftRows : ℕ → ℕ → List ℕ → List ℕ → List ℕ
+shiftRows d n F t = onRows n (every (shiftRow d n F)) t
+
+-- The verdict is clean when all 2n shifts are 0, else shifted: 0 clean, 1 shifted.
+abbrev pub noShift : ℕ → ℕ → List ℕ → List ℕ → ℕ → Bool
+noShift d n F t i = eqb (shiftAt d n F t i) 0
+
+unfoldable pub verdictOf : ℕ → ℕ → List ℕ → List ℕ → ℕ
+verdictOf d n F t = cond (all (noShift d n F t) (2 * n)) 0 1
+
+pub record Framed : Type 0 where
+  pub rows : List ℕ
+  pub results : List ℕ
+  pub frame : List ℕ
+
+-- what the frame run leaves: rows and results, the lent buffers of shifts and frame, and the verdict
+pub record Ended : Type 0 where
+  pub rows : List ℕ
+  pub results : List ℕ
+  pub shifts : List ℕ
+  pub frame : List ℕ
+  pub verdict : ℕ
+
+module _ (d n : ℕ) (choices : List ℕ) where
+  -- The reported result is the clean one plus the frame's X power on q; the frame stays.
+  unfoldable pub framedLook : ℕ → ℕ → Framed → Looked → Run Framed
+  framedLook j q st (Seen (Free k)) =
+      done (
+      record {
+        rows = collapse d n q k (getD choices j 0) (st .rows);
+        results = noted (st .results) j ((getD choices j 0 + xOf (st .frame) q) % d) 1;
+        frame = st .frame;
+      }
+      )
+  framedLook j q st (Seen (Certain outcome)) =
+      done (record { rows = st .rows; results = noted (st .results) j ((outcome + xOf (st .frame) q) % d) 0; frame = st .frame })
+  framedLook j q st NotZ = refused j (st .rows) (st .results)
+
+  -- A gate is done on the rows and on the frame, a measurement on the rows alone.
+  unfoldable pub framedKind : ℕ → Framed → Operation → Kind → Run Framed
+  framedKind j st op gate =
+      done (record { rows = gateRows d n op (st .rows); results = st .results; frame = gateFrame d n op (st .frame) })
+  framedKind j st op (measures q) = framedLook j q st (look d n (st .rows) q)
+
+  abbrev pub framedOperation : ℕ → Framed → Operation → Run Framed
+  framedOperation j st op = framedKind j st op (kind op)
+
+module _ (d n : ℕ) (ops : List Operation) (errors : List WeylError) (choices : List ℕ) where
+  -- Errors are taken at the same moments, but change only the frame.
+  unfoldable pub framedStrike : ℕ → Framed → Framed
+  framedStrike k st =
+      record { rows = st .rows; results = st .results; frame = strikeFrame d n errors k (st .frame) (length errors) }
+
+  unfoldable pub framedStep : ℕ → Framed → Run Framed
+  framedStep k st = framedOperation d n choices (measured ops k) (framedStrike k st) (opAt ops k)
+
+  -- At the end the shifts are added; shifts and frame are written to their buffers.
+  unfoldable pub framedLeave : List ℕ → List ℕ → Framed → Run Ended
+  framedLeave shifts frame st =
+      done (
+      record {
+        rows = shiftRows d n (st .frame) (st .rows);
+        results = st .results;
+        shifts = tab (shiftAt d n (st .frame) (st .rows)) (2 * n) ++ drop (2 * n) shifts;
+        frame = st .frame ++ drop (2 * n) frame;
+        verdict = verdictOf d n (st .frame) (st .rows);
+      }
+      )
+
+  -- The shifts are added after the last error.
+  unfoldable pub framedEnd : List ℕ → List ℕ → Framed → Run Ended
+  framedEnd shifts frame st = framedLeave shifts frame (framedStrike (length ops) st)
+
+  -- from any frame F; the frame run begins with no powers
+  unfoldable pub frameRunFrom : List ℕ → State → List ℕ → List ℕ → Run Ended
+  frameRunFrom F st shifts frame =
+      andThen (onward framedStep 0 (record { rows = st .rows; results = st .results; frame = F }) (length ops))
+      (framedEnd shifts frame)
+
+  unfoldable pub frameRun : State → List ℕ → List ℕ → Run Ended
+  frameRun st shifts frame = frameRunFrom (noFrame n) st shifts frame

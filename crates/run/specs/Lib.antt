@@ -1,0 +1,4 @@
+pub mod Run
+pub mod Direct
+pub mod Frame
+pub mod Raised

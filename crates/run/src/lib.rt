@@ -1,0 +1,1 @@
+// The two runs over decoded lists; no code.

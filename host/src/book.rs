@@ -1,0 +1,237 @@
+//! Shot books: operations, errors and choices as Rust values, and their bytes.
+//!
+//! This is plain convenience. It refuses nothing: whatever is put into a [`Book`] comes out of
+//! [`Book::to_bytes`], and the run that reads those bytes says what is wrong with them.
+
+/// The dimensions that a book may have.
+pub const DIMENSIONS: [u8; 10] = [3, 5, 7, 11, 13, 17, 19, 23, 29, 31];
+
+/// The largest number of qudits.
+pub const MAX_QUDITS: u8 = 64;
+
+/// The largest number of operations in a book.
+pub const MAX_OPERATIONS: usize = 4096;
+
+/// The largest number of errors in a book.
+pub const MAX_ERRORS: usize = 2048;
+
+/// The largest number of choices in a book.
+pub const MAX_CHOICES: usize = 4096;
+
+/// One of the seven operations. Qudits are numbered from 0.
+#[derive(Clone, Copy, Debug, PartialEq, Eq, Hash)]
+pub enum Operation {
+    /// The Fourier gate.
+    Fourier {
+        /// The qudit.
+        q: u8,
+    },
+    /// The phase gate: level j gains the phase ω^(j(j−1)/2).
+    PhaseGate {
+        /// The qudit.
+        q: u8,
+    },
+    /// Adds the level of `c` to that of `t`.
+    Sum {
+        /// The control.
+        c: u8,
+        /// The target.
+        t: u8,
+    },
+    /// Multiplies by ω to the product of the two levels.
+    Cz {
+        /// One qudit.
+        c: u8,
+        /// The other.
+        t: u8,
+    },
+    /// Exchanges two qudits.
+    Swap {
+        /// One qudit.
+        c: u8,
+        /// The other.
+        t: u8,
+    },
+    /// Sends level j to u·j.
+    Multiplier {
+        /// The qudit.
+        q: u8,
+        /// The factor, from 1 to d − 1.
+        u: u8,
+    },
+    /// Measures the level of a qudit. It takes the next choice.
+    Measure {
+        /// The qudit.
+        q: u8,
+    },
+}
+
+impl Operation {
+    /// The four bytes of the operation in a book.
+    pub fn to_bytes(self) -> [u8; 4] {
+        match self {
+            Operation::Fourier { q } => [0, q, 0, 0],
+            Operation::PhaseGate { q } => [1, q, 0, 0],
+            Operation::Sum { c, t } => [2, c, t, 0],
+            Operation::Cz { c, t } => [3, c, t, 0],
+            Operation::Swap { c, t } => [4, c, t, 0],
+            Operation::Multiplier { q, u } => [5, q, 0, u],
+            Operation::Measure { q } => [6, q, 0, 0],
+        }
+    }
+}
+
+/// The Weyl error X^p Z^s on one qudit.
+#[derive(Clone, Copy, Debug, PartialEq, Eq, Hash)]
+pub struct WeylError {
+    /// The index of the operation before which it strikes; the number of operations means after
+    /// all of them.
+    pub place: u16,
+    /// The qudit that it strikes.
+    pub qudit: u8,
+    /// The power of X.
+    pub p: u8,
+    /// The power of Z.
+    pub s: u8,
+}
+
+impl WeylError {
+    /// The five bytes of the error in a book.
+    pub fn to_bytes(self) -> [u8; 5] {
+        let [low, high] = self.place.to_le_bytes();
+        [low, high, self.qudit, self.p, self.s]
+    }
+}
+
+/// A shot book under construction.
+///
+/// ```
+/// use cagvost::book::{Book, Operation};
+///
+/// let mut book = Book::new(3, 2);
+/// book.operation(Operation::Fourier { q: 0 })
+///     .operation(Operation::Sum { c: 0, t: 1 })
+///     .strike(1, 1, 0)
+///     .measure(0, 2)
+///     .measure(1, 0);
+/// let bytes = book.to_bytes();
+///
+/// let mut tableau = vec![0; cagvost::tableau_len(2)];
+/// let mut results = vec![0; cagvost::results_len(book.measurements())];
+/// cagvost::layer(&mut tableau, 3, 2)?;
+/// cagvost::direct_run(&bytes, &mut tableau, &mut results)?;
+/// assert_eq!(results, [2, 1, 0, 0]);
+/// # Ok::<(), cagvost::Refusal>(())
+/// ```
+#[derive(Clone, Debug, PartialEq, Eq)]
+pub struct Book {
+    d: u8,
+    n: u8,
+    operations: Vec<Operation>,
+    errors: Vec<WeylError>,
+    choices: Vec<u8>,
+}
+
+impl Book {
+    /// An empty book for `n` qudits of dimension `d`.
+    pub fn new(d: u8, n: u8) -> Book {
+        Book {
+            d,
+            n,
+            operations: Vec::new(),
+            errors: Vec::new(),
+            choices: Vec::new(),
+        }
+    }
+
+    /// Adds an operation. A measurement added in this way still needs its choice.
+    pub fn operation(&mut self, operation: Operation) -> &mut Book {
+        self.operations.push(operation);
+        self
+    }
+
+    /// Adds a measurement together with its choice.
+    pub fn measure(&mut self, q: u8, choice: u8) -> &mut Book {
+        self.operation(Operation::Measure { q }).choice(choice)
+    }
+
+    /// Adds a choice.
+    pub fn choice(&mut self, choice: u8) -> &mut Book {
+        self.choices.push(choice);
+        self
+    }
+
+    /// Adds an error X^p Z^s that strikes here: after the operations added so far and before the
+    /// next.
+    pub fn strike(&mut self, qudit: u8, p: u8, s: u8) -> &mut Book {
+        let place = narrow(self.operations.len());
+        self.error(WeylError { place, qudit, p, s })
+    }
+
+    /// Adds an error with a place of its own. The reader wants places that never fall.
+    pub fn error(&mut self, error: WeylError) -> &mut Book {
+        self.errors.push(error);
+        self
+    }
+
+    /// The dimension.
+    pub fn dimension(&self) -> u8 {
+        self.d
+    }
+
+    /// The number of qudits.
+    pub fn qudits(&self) -> u8 {
+        self.n
+    }
+
+    /// The operations, in order.
+    pub fn operations(&self) -> &[Operation] {
+        &self.operations
+    }
+
+    /// The errors, in the order of their entries.
+    pub fn errors(&self) -> &[WeylError] {
+        &self.errors
+    }
+
+    /// The choices, one for each measurement.
+    pub fn choices(&self) -> &[u8] {
+        &self.choices
+    }
+
+    /// The choices, to be changed in place.
+    pub fn choices_mut(&mut self) -> &mut [u8] {
+        &mut self.choices
+    }
+
+    /// How many of the operations are measurements.
+    pub fn measurements(&self) -> usize {
+        let measures = |o: &&Operation| matches!(o, Operation::Measure { .. });
+        self.operations.iter().filter(measures).count()
+    }
+
+    /// The bytes of the book.
+    ///
+    /// A body that is too long for the two bytes of its length is written with the length 65,535,
+    /// which no reader accepts, rather than with one cut to two bytes.
+    pub fn to_bytes(&self) -> Vec<u8> {
+        let operations: Vec<u8> = self.operations.iter().flat_map(|o| o.to_bytes()).collect();
+        let errors: Vec<u8> = self.errors.iter().flat_map(|e| e.to_bytes()).collect();
+        let bodies = [operations, errors, self.choices.clone()];
+        let mut bytes = vec![81, self.d, self.n, 3];
+        let mut offset = 22;
+        for (kind, body) in (1..).zip(&bodies) {
+            bytes.extend([kind, 0]);
+            bytes.extend(narrow(offset).to_le_bytes());
+            bytes.extend(narrow(body.len()).to_le_bytes());
+            offset += body.len();
+        }
+        bytes.extend(bodies.concat());
+        bytes
+    }
+}
+
+/// The number in two bytes, or the largest that fits.
+fn narrow(number: usize) -> u16 {
+    u16::try_from(number).unwrap_or(u16::MAX)
+}

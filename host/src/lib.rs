@@ -1,0 +1,124 @@
+//! Noisy Clifford circuits on qudits of odd prime dimension.
+//!
+//! This package is the host side of Cagvost, a simulator written and proved in Rattle. It keeps a
+//! full tableau with phases, for 1 to 64 qudits of dimension 3, 5, 7, 11, 13, 17, 19, 23, 29 or 31.
+//! Every function here takes whatever it is handed: it does its work, or it returns a [`Refusal`]
+//! and leaves the buffers as they were. No check is owed before a call.
+//!
+//! # Running a book
+//!
+//! A *shot book* holds a circuit, the errors that strike it and one choice for each measurement;
+//! [`book::Book`] writes one. A run starts from a tableau that you lend, usually the zero tableau
+//! (all qudits at level 0) laid by [`layer`], and leaves the final one in its place.
+//!
+//! ```
+//! // Two qutrits: Fourier on 0, SUM from 0 to 1, an X error on 1, then both are measured.
+//! let book = [
+//!     0x51, 0x03, 0x02, 0x03, // mark, dimension 3, two qudits, three bodies
+//!     0x01, 0x00, 0x16, 0x00, 0x10, 0x00, // operations: at 22, 16 bytes
+//!     0x02, 0x00, 0x26, 0x00, 0x05, 0x00, // errors: at 38, 5 bytes
+//!     0x03, 0x00, 0x2B, 0x00, 0x02, 0x00, // choices: at 43, 2 bytes
+//!     0x00, 0x00, 0x00, 0x00, // Fourier on qudit 0
+//!     0x02, 0x00, 0x01, 0x00, // SUM from qudit 0 to qudit 1
+//!     0x06, 0x00, 0x00, 0x00, // measure qudit 0
+//!     0x06, 0x01, 0x00, 0x00, // measure qudit 1
+//!     0x02, 0x00, 0x01, 0x01, 0x00, // before operation 2, on qudit 1: X
+//!     0x02, 0x00, // the choices
+//! ];
+//! let mut tableau = [0; cagvost::tableau_len(2)];
+//! let mut results = [0; cagvost::results_len(2)];
+//!
+//! cagvost::layer(&mut tableau, 3, 2)?;
+//! let measurements = cagvost::direct_run(&book, &mut tableau, &mut results)?;
+//!
+//! assert_eq!(measurements, 2);
+//! assert_eq!(results, [2, 1, 0, 0]); // qudit 0 free: the choice, 2; qudit 1 certain: 0
+//! assert_eq!(
+//!     tableau,
+//!     [
+//!         1, 1, 0, 0, 0, // destabilizer 0
+//!         0, 1, 0, 0, 0, // destabilizer 1
+//!         0, 0, 1, 0, 1, // stabilizer 0: ω Z on qudit 0
+//!         0, 0, 2, 1, 2, // stabilizer 1
+//!     ]
+//! );
+//! # Ok::<(), cagvost::Refusal>(())
+//! ```
+//!
+//! # Buffers
+//!
+//! - The *tableau* has 2n rows of 2n + 1 bytes: n X powers, n Z powers and a phase. Destabilizers
+//!   come first, then stabilizers; [`tableau_len`] is its size.
+//! - The *results* have 2 bytes for each measurement: the outcome, then 0 if it was certain or 1 if
+//!   it was free; [`results_len`] is their size.
+//!
+//! A buffer may be longer than needed: bytes past the needed ones are kept.
+//!
+//! # Building
+//!
+//! The build script has `rt staticlib cagvost` prove the crates and build the library. To link one
+//! that was built before, let the environment variable `CAGVOST_LIB` name the folder that has
+//! `libcagvost.a`.
+
+#![deny(missing_docs)]
+#![deny(unsafe_code)]
+
+pub mod book;
+#[allow(unsafe_code)]
+mod library;
+mod refusal;
+
+pub use refusal::Refusal;
+
+use library::Answer;
+
+/// The bytes that the tableau of `n` qudits needs.
+pub const fn tableau_len(n: usize) -> usize {
+    2 * n * (2 * n + 1)
+}
+
+/// The bytes that the results of so many measurements need.
+pub const fn results_len(measurements: usize) -> usize {
+    2 * measurements
+}
+
+/// Lays the zero tableau of `n` qudits of dimension `d`: every qudit at level 0.
+///
+/// # Errors
+///
+/// [`Refusal::Dimension`], [`Refusal::QuditCount`], [`Refusal::ShortBuffer`], tested in this order.
+pub fn layer(tableau: &mut [u8], d: usize, n: usize) -> Result<(), Refusal> {
+    told(library::layer(tableau, d, n)).map(drop)
+}
+
+/// Tests whether the buffer holds a valid tableau of `n` qudits of dimension `d`: every byte is
+/// below `d`, and the rows pair as they must.
+///
+/// # Errors
+///
+/// [`Refusal::Dimension`], [`Refusal::QuditCount`], [`Refusal::ShortBuffer`],
+/// [`Refusal::InvalidTableau`], tested in this order.
+pub fn test_tableau(tableau: &[u8], d: usize, n: usize) -> Result<(), Refusal> {
+    told(library::test(tableau, d, n)).map(drop)
+}
+
+/// Runs a book from the lent tableau, applying each error to the rows where it strikes.
+///
+/// Returns the number of measurements. Their outcomes and marks are in `results`, the final rows in
+/// `tableau`.
+///
+/// # Errors
+///
+/// What is wrong with the book comes first ([`Refusal::BookHeader`] to [`Refusal::Choice`], in the
+/// order of their numbers), then [`Refusal::ShortBuffer`], then [`Refusal::InvalidTableau`].
+pub fn direct_run(book: &[u8], tableau: &mut [u8], results: &mut [u8]) -> Result<usize, Refusal> {
+    told(library::direct_run(book, tableau, results))
+}
+
+/// The count of a success, or the refusal.
+fn told(answer: Answer) -> Result<usize, Refusal> {
+    match answer.number {
+        0 => Ok(answer.place),
+        number => Err(Refusal::listed(number, answer.place)),
+    }
+}

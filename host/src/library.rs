@@ -1,0 +1,87 @@
+//! The calls into the proved static library: the only unsafe code of this package.
+//!
+//! Why each call is sound, whatever the caller hands in:
+//! - pointer and length come from one slice, so they name memory that is lent for the whole call;
+//! - a buffer that the library writes comes from `&mut`, so no other buffer overlaps it;
+//! - the functions are proved to take every input: no number, book or tableau, however damaged,
+//!   makes them leave the slices, and they end;
+//! - they keep no pointer and no state, so calls from several threads do not meet.
+//!
+//! The declarations repeat the library's source (`crates/cagvost/src/lib.rt`), and nothing checks
+//! them against it but the tests.
+
+/// What an exported function returns: 0 and a count, or a refusal's number and its place.
+#[repr(C)]
+#[derive(Clone, Copy, Debug, PartialEq, Eq)]
+pub(crate) struct Answer {
+    pub(crate) number: usize,
+    pub(crate) place: usize,
+}
+
+unsafe extern "C" {
+    fn cagvost_layer(t: *mut u8, t_len: usize, d: usize, n: usize) -> Answer;
+    fn cagvost_test(t: *const u8, t_len: usize, d: usize, n: usize) -> Answer;
+    fn cagvost_direct_run(
+        book: *const u8,
+        book_len: usize,
+        t: *mut u8,
+        t_len: usize,
+        results: *mut u8,
+        results_len: usize,
+    ) -> Answer;
+}
+
+pub(crate) fn layer(tableau: &mut [u8], d: usize, n: usize) -> Answer {
+    // SAFETY: see the head of this module.
+    unsafe { cagvost_layer(tableau.as_mut_ptr(), tableau.len(), d, n) }
+}
+
+pub(crate) fn test(tableau: &[u8], d: usize, n: usize) -> Answer {
+    // SAFETY: see the head of this module; the library does not write this buffer.
+    unsafe { cagvost_test(tableau.as_ptr(), tableau.len(), d, n) }
+}
+
+pub(crate) fn direct_run(book: &[u8], tableau: &mut [u8], results: &mut [u8]) -> Answer {
+    // SAFETY: see the head of this module; the library does not write the book.
+    unsafe {
+        cagvost_direct_run(
+            book.as_ptr(),
+            book.len(),
+            tableau.as_mut_ptr(),
+            tableau.len(),
+            results.as_mut_ptr(),
+            results.len(),
+        )
+    }
+}
+
+/// The second number of a success, which the safe functions partly drop.
+#[cfg(test)]
+mod tests {
+    use super::*;
+    use crate::book::{Book, Operation};
+
+    const DONE: Answer = Answer {
+        number: 0,
+        place: 0,
+    };
+
+    #[test]
+    fn layer_and_test_succeed_with_0_and_0() {
+        let mut tableau = [0; crate::tableau_len(64)];
+        assert_eq!(layer(&mut tableau, 31, 64), DONE);
+        assert_eq!(test(&tableau, 31, 64), DONE);
+    }
+
+    #[test]
+    fn a_run_succeeds_with_0_and_its_measurements() {
+        let mut tableau = [0; crate::tableau_len(1)];
+        layer(&mut tableau, 3, 1);
+        let mut book = Book::new(3, 1);
+        book.operation(Operation::Fourier { q: 0 });
+        assert_eq!(direct_run(&book.to_bytes(), &mut tableau, &mut []), DONE);
+        book.measure(0, 1).measure(0, 2).measure(0, 0);
+        let answer = direct_run(&book.to_bytes(), &mut tableau, &mut [0; 6]);
+        assert_eq!((answer.number, answer.place), (0, 3));
+    }
+}

@@ -1,0 +1,177 @@
+//! The listed refusals.
+
+use std::error::Error;
+use std::fmt;
+
+/// Why a call refused: one variant for each listed number, with the place where it says one.
+///
+/// A refusal leaves every lent buffer as it was. The only exception is [`Refusal::NotZ`], which
+/// cannot come from a run that has tested its tableau, and every run does.
+///
+/// ```
+/// let refusal = cagvost::test_tableau(&[], 9, 1).unwrap_err();
+/// assert_eq!(refusal, cagvost::Refusal::Dimension);
+/// assert_eq!((refusal.number(), refusal.place()), (2, 0));
+/// assert!(refusal.to_string().starts_with("refused 2 at 0: "));
+/// ```
+#[derive(Clone, Copy, Debug, PartialEq, Eq, Hash)]
+#[non_exhaustive]
+pub enum Refusal {
+    /// 1: the book has fewer than 22 bytes, its first byte is not 81, or its fourth is not 3.
+    BookHeader,
+    /// 2: the dimension is not one of [`DIMENSIONS`](crate::book::DIMENSIONS).
+    Dimension,
+    /// 3: the number of qudits is not from 1 to 64.
+    QuditCount,
+    /// 4: a wrong entry of the book's table of contents.
+    Contents {
+        /// The first wrong entry, from 0 to 2, or 3 if only the book's end is wrong.
+        entry: usize,
+    },
+    /// 5: an entry is not one of the seven operations.
+    Operation {
+        /// The first bad operation.
+        index: usize,
+    },
+    /// 6: an error is placed too high or out of order, or its qudit or a power is too large.
+    ErrorEntry {
+        /// The first bad error.
+        index: usize,
+    },
+    /// 7: choices and measurements differ in number, or a choice is not below the dimension.
+    Choice {
+        /// The smaller of the two counts where they differ, else the first bad choice.
+        index: usize,
+    },
+    /// 8: a lent buffer is shorter than it must be.
+    ShortBuffer,
+    /// 9: the lent tableau is not a valid one for this dimension and number of qudits.
+    InvalidTableau,
+    /// 10: the rows contradict a measurement that ought to be certain.
+    NotZ {
+        /// The measurement, counted from 0.
+        measurement: usize,
+    },
+}
+
+impl Refusal {
+    /// The listed number, from 1 to 10.
+    pub fn number(self) -> usize {
+        match self {
+            Refusal::BookHeader => 1,
+            Refusal::Dimension => 2,
+            Refusal::QuditCount => 3,
+            Refusal::Contents { .. } => 4,
+            Refusal::Operation { .. } => 5,
+            Refusal::ErrorEntry { .. } => 6,
+            Refusal::Choice { .. } => 7,
+            Refusal::ShortBuffer => 8,
+            Refusal::InvalidTableau => 9,
+            Refusal::NotZ { .. } => 10,
+        }
+    }
+
+    /// The place that comes with the number; 0 where the list has none.
+    pub fn place(self) -> usize {
+        match self {
+            Refusal::Contents { entry } => entry,
+            Refusal::Operation { index }
+            | Refusal::ErrorEntry { index }
+            | Refusal::Choice { index } => index,
+            Refusal::NotZ { measurement } => measurement,
+            _ => 0,
+        }
+    }
+
+    /// What the number means, in words.
+    pub fn meaning(self) -> &'static str {
+        match self {
+            Refusal::BookHeader => {
+                "not a shot book: it needs at least 22 bytes, the first of them 81 and the fourth 3"
+            }
+            Refusal::Dimension => {
+                "the dimension is not one of 3, 5, 7, 11, 13, 17, 19, 23, 29 and 31"
+            }
+            Refusal::QuditCount => "the number of qudits is not from 1 to 64",
+            Refusal::Contents { entry: 3 } => {
+                "the book does not end where its table of contents says"
+            }
+            Refusal::Contents { .. } => {
+                "this entry of the table of contents has a wrong kind, zero byte, offset or length"
+            }
+            Refusal::Operation { .. } => {
+                "this entry is not one of the seven operations on the book's qudits"
+            }
+            Refusal::ErrorEntry { .. } => {
+                "this error is placed after the end or before the previous error, or its qudit or a power is too large"
+            }
+            Refusal::Choice { .. } => {
+                "choices and measurements differ in number from here on, or this choice is not below the dimension"
+            }
+            Refusal::ShortBuffer => "a buffer is shorter than the call needs",
+            Refusal::InvalidTableau => {
+                "the tableau is not valid: a byte is not below the dimension, or two rows do not pair as they must"
+            }
+            Refusal::NotZ { .. } => {
+                "the rows contradict this measurement, which ought to be certain"
+            }
+        }
+    }
+
+    /// The refusal that the library names.
+    ///
+    /// Another number or place than the listed ones is proved not to come, so it can only mean that
+    /// this package was linked with a library of another version: no result of it is to be trusted.
+    pub(crate) fn listed(number: usize, place: usize) -> Refusal {
+        match (number, place) {
+            (1, 0) => Refusal::BookHeader,
+            (2, 0) => Refusal::Dimension,
+            (3, 0) => Refusal::QuditCount,
+            (4, entry @ 0..=3) => Refusal::Contents { entry },
+            (5, index) => Refusal::Operation { index },
+            (6, index) => Refusal::ErrorEntry { index },
+            (7, index) => Refusal::Choice { index },
+            (8, 0) => Refusal::ShortBuffer,
+            (9, 0) => Refusal::InvalidTableau,
+            (10, measurement) => Refusal::NotZ { measurement },
+            _ => panic!("the linked library is of another version: it refused {number} at {place}"),
+        }
+    }
+}
+
+impl fmt::Display for Refusal {
+    fn fmt(&self, f: &mut fmt::Formatter<'_>) -> fmt::Result {
+        let (number, place) = (self.number(), self.place());
+        write!(f, "refused {number} at {place}: {}", self.meaning())
+    }
+}
+
+impl Error for Refusal {}
+
+#[cfg(test)]
+mod tests {
+    use super::*;
+
+    #[test]
+    fn each_listed_number_keeps_its_number_and_place() {
+        for number in 1..=10 {
+            let place = if matches!(number, 4..=7 | 10) { 2 } else { 0 };
+            let refusal = Refusal::listed(number, place);
+            assert_eq!((refusal.number(), refusal.place()), (number, place));
+            let text = refusal.to_string();
+            assert!(text.starts_with(&format!("refused {number} at {place}: ")));
+        }
+    }
+
+    #[test]
+    #[should_panic(expected = "another version")]
+    fn an_unlisted_number_is_no_refusal() {
+        Refusal::listed(11, 0);
+    }
+
+    #[test]
+    #[should_panic(expected = "another version")]
+    fn a_place_where_the_list_has_none_is_no_refusal() {
+        Refusal::listed(8, 1);
+    }
+}

@@ -1,0 +1,268 @@
+//! Drawn books from drawn tableaus: every byte as the plain reference has it.
+
+mod common;
+
+use cagvost::book::{Book, DIMENSIONS, MAX_ERRORS, MAX_OPERATIONS, Operation};
+use common::plain::{self, Row};
+use common::{Rng, Run, Shape, draw_book, draw_tableau, run_both, with_tail};
+
+/// How often each kind of measurement was seen.
+#[derive(Default)]
+struct Seen {
+    free: usize,
+    certain: usize,
+    certain_not_0: usize,
+}
+
+impl Seen {
+    fn count(&mut self, run: &Run, measurements: usize) {
+        for result in run.results[..2 * measurements].chunks(2) {
+            self.free += usize::from(result[1] == 1);
+            self.certain += usize::from(result[1] == 0);
+            self.certain_not_0 += usize::from(result[1] == 0 && result[0] != 0);
+        }
+    }
+
+    fn is_enough(&self, of_each: usize) {
+        let Seen {
+            free,
+            certain,
+            certain_not_0,
+        } = self;
+        assert!(
+            [free, certain, certain_not_0].iter().all(|&&c| c > of_each),
+            "free {free} certain {certain} of them not 0 {certain_not_0}"
+        );
+    }
+}
+
+/// Runs a drawn book of the shape from a drawn tableau, by both.
+fn compare(rng: &mut Rng, shape: Shape, seen: &mut Seen) {
+    let book = draw_book(rng, shape);
+    let tableau = draw_tableau(rng, shape.d, shape.n);
+    let tableau = with_tail(rng, tableau);
+    let results = rng.bytes(2 * book.measurements() + 3);
+    let run = run_both(&book.to_bytes(), &tableau, &results);
+    assert_eq!(run.told, (0, book.measurements()));
+    seen.count(&run, book.measurements());
+}
+
+/// So many books for each dimension, with qudits from `least` to `most`.
+fn compare_many(books: usize, least: u8, most: u8, operations: usize) {
+    let mut rng = Rng(least.into());
+    let mut seen = Seen::default();
+    for d in DIMENSIONS {
+        for _ in 0..books {
+            let shape = Shape {
+                d,
+                n: least + rng.byte_below(most - least + 1),
+                operations: rng.below(operations),
+                errors: rng.below(operations / 3),
+                measure_one_in: 2 + rng.below(8),
+            };
+            compare(&mut rng, shape, &mut seen);
+        }
+    }
+    seen.is_enough(10 * books);
+}
+
+#[test]
+fn one_qudit() {
+    compare_many(400, 1, 1, 60);
+}
+
+#[test]
+fn two_to_four_qudits() {
+    compare_many(400, 2, 4, 80);
+}
+
+#[test]
+fn five_to_twelve_qudits() {
+    compare_many(100, 5, 12, 150);
+}
+
+#[test]
+fn thirteen_to_32_qudits() {
+    compare_many(20, 13, 32, 300);
+}
+
+#[test]
+fn thirty_three_to_64_qudits() {
+    compare_many(6, 33, 64, 400);
+}
+
+/// Every number of qudits at least once, in every dimension by turns.
+#[test]
+fn every_number_of_qudits() {
+    let mut rng = Rng(64);
+    let mut seen = Seen::default();
+    for n in 1..=64 {
+        let shape = Shape {
+            d: DIMENSIONS[usize::from(n) % 10],
+            n,
+            operations: 150,
+            errors: 50,
+            measure_one_in: 3,
+        };
+        compare(&mut rng, shape, &mut seen);
+    }
+    seen.is_enough(50);
+}
+
+/// The largest books there are, on few qudits and on all 64.
+#[test]
+fn full_books() {
+    let mut rng = Rng(4096);
+    let mut seen = Seen::default();
+    for (d, n) in [(3, 64), (31, 64), (5, 60), (13, 3), (3, 1), (29, 9)] {
+        let shape = Shape {
+            d,
+            n,
+            operations: MAX_OPERATIONS,
+            errors: MAX_ERRORS,
+            measure_one_in: 8,
+        };
+        compare(&mut rng, shape, &mut seen);
+    }
+    seen.is_enough(200);
+}
+
+#[test]
+fn full_books_of_measurements_alone() {
+    let mut rng = Rng(4097);
+    for (d, n) in [(7, 64), (3, 2)] {
+        let shape = Shape {
+            d,
+            n,
+            operations: MAX_OPERATIONS,
+            errors: MAX_ERRORS,
+            measure_one_in: 1,
+        };
+        compare(&mut rng, shape, &mut Seen::default());
+    }
+}
+
+// ---- The lowest pivot, which neither results nor stabilizer sets show
+
+/// The row's bytes in a tableau.
+fn row(tableau: &[u8], n: usize, i: usize) -> &[u8] {
+    &tableau[i * (2 * n + 1)..(i + 1) * (2 * n + 1)]
+}
+
+/// Measures one qudit of a drawn tableau where several stabilizers could be the pivot, and looks
+/// for the lowest in the bytes.
+fn measure_with_two_pivots(rng: &mut Rng, d: u8, n: u8) -> bool {
+    let (count, q, m) = (usize::from(n), rng.byte_below(n), rng.byte_below(d));
+    let tableau = draw_tableau(rng, d, n);
+    let able: Vec<usize> = (0..count)
+        .filter(|&k| row(&tableau, count, count + k)[usize::from(q)] != 0)
+        .collect();
+    let [k, next, ..] = able[..] else {
+        return false;
+    };
+    let book = Book::new(d, n).measure(q, m).to_bytes();
+    let run = run_both(&book, &tableau, &[9; 2]);
+    assert_eq!(run.results, [m, 1]);
+    let measured = plain::z_on(count, q.into(), i64::from((d - m) % d));
+    let bytes = plain::bytes_of(&[measured]);
+    assert_eq!(row(&run.tableau, count, count + k), bytes);
+    assert_ne!(row(&run.tableau, count, count + next), bytes);
+    true
+}
+
+#[test]
+fn the_lowest_pivot_is_taken() {
+    let mut rng = Rng(11);
+    for d in DIMENSIONS {
+        for n in [2, 3, 5, 17, 64] {
+            let tries = (0..40).filter(|_| measure_with_two_pivots(&mut rng, d, n));
+            assert!(tries.take(3).count() == 3, "d {d} n {n}");
+        }
+    }
+}
+
+/// Worked by hand: three qutrits in a row of SUMs, so that three stabilizers have an X power on
+/// qudit 2.
+#[test]
+fn the_lowest_pivot_by_hand() {
+    let mut book = Book::new(3, 3);
+    for q in 0..3 {
+        book.operation(Operation::Fourier { q });
+    }
+    book.operation(Operation::Sum { c: 0, t: 2 })
+        .operation(Operation::Sum { c: 1, t: 2 })
+        .measure(2, 1);
+    let run = run_both(&book.to_bytes(), &common::zero_tableau(3), &[0; 2]);
+    assert_eq!(run.results, [1, 1]);
+    #[rustfmt::skip]
+    assert_eq!(run.tableau, [
+        1, 0, 1, 0, 0, 0, 0, // the pivot X² · X² on 0 and 2, to the power 1/2
+        0, 0, 0, 0, 1, 0, 0,
+        0, 0, 0, 2, 2, 1, 0,
+        0, 0, 0, 0, 0, 1, 2, // Z on 2 with phase −1
+        1, 2, 0, 0, 0, 0, 0, // the others times the pivot to the power −2/2
+        1, 0, 0, 0, 0, 0, 0,
+    ]);
+}
+
+// ---- Demand 3 on the plain reference, whose frame run waits for the library's
+
+/// The rows after a direct run with raised choices, and after a frame run.
+fn carried_and_struck(rng: &mut Rng, d: u8, n: u8) {
+    let (operations, errors) = (rng.below(60), rng.below(20));
+    let shape = Shape {
+        d,
+        n,
+        operations,
+        errors,
+        measure_one_in: 3,
+    };
+    let mut book = draw_book(rng, shape);
+    let first = book.to_bytes();
+    let raised = plain::raised_choices(&plain::read(&first).expect("an accepted book"));
+    book.choices_mut().copy_from_slice(&raised);
+    let tableau = draw_tableau(rng, d, n);
+    let room = vec![0; 2 * book.measurements()];
+    let struck = run_both(&book.to_bytes(), &tableau, &room);
+    let (mut carried, mut results) = (tableau, room);
+    let (mut shifts, mut frame) = (vec![0; 2 * usize::from(n)], vec![0; 2 * usize::from(n)]);
+    let told = plain::frame_run(&first, &mut carried, &mut results, &mut shifts, &mut frame);
+    assert_eq!((told.0, told.1), struck.told);
+    assert_eq!(results, struck.results);
+    assert!(carried == struck.tableau);
+    // On a valid tableau the verdict is clean exactly if the frame is 0.
+    assert_eq!(told.2 == 0, frame.iter().all(|&x| x == 0));
+}
+
+#[test]
+fn errors_carried_by_the_reference_are_errors_struck() {
+    let mut rng = Rng(3);
+    for d in DIMENSIONS {
+        for _ in 0..100 {
+            let n = 1 + rng.byte_below(6);
+            carried_and_struck(&mut rng, d, n);
+        }
+    }
+}
+
+/// A product of powers does not depend on how it is taken apart: the row laws the reference rests
+/// on, where a slip would be shared by a library that copied it.
+#[test]
+fn powers_of_the_reference_are_repeated_products() {
+    let mut rng = Rng(12);
+    for d in DIMENSIONS.map(i64::from) {
+        for _ in 0..20 {
+            let mut draw = || rng.below(d as usize) as i64;
+            let v = Row {
+                a: vec![draw(), draw(), draw()],
+                b: vec![draw(), draw(), draw()],
+                r: draw(),
+            };
+            let mut repeated = plain::identity(3);
+            for h in 0..2 * d {
+                assert_eq!(plain::power(d, &v, h), repeated);
+                repeated = plain::product(d, &repeated, &v);
+            }
+        }
+    }
+}

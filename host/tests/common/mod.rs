@@ -1,0 +1,233 @@
+//! What the tests share: drawn circuits, books and tableaus, and two references.
+#![allow(dead_code)] // each test file uses its own part
+
+pub mod dense;
+pub mod plain;
+
+use cagvost::Refusal;
+use cagvost::book::{Book, Operation};
+
+/// The 45-byte book of the specification.
+pub const PAPER_BOOK: [u8; 45] = [
+    0x51, 0x03, 0x02, 0x03, 0x01, 0x00, 0x16, 0x00, 0x10, 0x00, 0x02, 0x00, 0x26, 0x00, 0x05, 0x00,
+    0x03, 0x00, 0x2B, 0x00, 0x02, 0x00, 0x00, 0x00, 0x00, 0x00, 0x02, 0x00, 0x01, 0x00, 0x06, 0x00,
+    0x00, 0x00, 0x06, 0x01, 0x00, 0x00, 0x02, 0x00, 0x01, 0x01, 0x00, 0x02, 0x00,
+];
+
+// ---- Drawing
+
+/// splitmix64: small, and the same on every machine.
+pub struct Rng(pub u64);
+
+impl Rng {
+    pub fn next(&mut self) -> u64 {
+        self.0 = self.0.wrapping_add(0x9E37_79B9_7F4A_7C15);
+        let mut z = self.0;
+        z = (z ^ (z >> 30)).wrapping_mul(0xBF58_476D_1CE4_E5B9);
+        z = (z ^ (z >> 27)).wrapping_mul(0x94D0_49BB_1331_11EB);
+        z ^ (z >> 31)
+    }
+
+    /// A number below `end`; the tiny bias does not matter here.
+    pub fn below(&mut self, end: usize) -> usize {
+        (self.next() % end as u64) as usize
+    }
+
+    /// A byte below `end`.
+    pub fn byte_below(&mut self, end: u8) -> u8 {
+        self.below(end.into()) as u8
+    }
+
+    pub fn byte(&mut self) -> u8 {
+        self.next() as u8
+    }
+
+    pub fn bytes(&mut self, length: usize) -> Vec<u8> {
+        (0..length).map(|_| self.byte()).collect()
+    }
+
+    /// True once in `times`.
+    pub fn once_in(&mut self, times: usize) -> bool {
+        self.below(times) == 0
+    }
+}
+
+/// Two different qudits. There must be two.
+fn draw_two(rng: &mut Rng, n: u8) -> (u8, u8) {
+    let c = rng.byte_below(n);
+    let t = rng.byte_below(n - 1);
+    (c, if t < c { t } else { t + 1 })
+}
+
+/// A gate; one qudit alone gets no gate on two.
+pub fn draw_gate(rng: &mut Rng, d: u8, n: u8) -> Operation {
+    let q = rng.byte_below(n);
+    match rng.below(if n == 1 { 5 } else { 10 }) {
+        0 | 1 => Operation::Fourier { q },
+        2 | 3 => Operation::PhaseGate { q },
+        4 => Operation::Multiplier {
+            q,
+            u: 1 + rng.byte_below(d - 1),
+        },
+        kind => {
+            let (c, t) = draw_two(rng, n);
+            match kind {
+                5 | 6 => Operation::Sum { c, t },
+                7 | 8 => Operation::Cz { c, t },
+                _ => Operation::Swap { c, t },
+            }
+        }
+    }
+}
+
+/// How a drawn circuit is made.
+#[derive(Clone, Copy)]
+pub struct Shape {
+    pub d: u8,
+    pub n: u8,
+    pub operations: usize,
+    pub errors: usize,
+    /// About one operation in so many is a measurement.
+    pub measure_one_in: usize,
+}
+
+/// An acceptable book: gates, measurements and errors strewn over it.
+///
+/// A measurement sometimes repeats the one before it, or all qudits are measured in a row, so that
+/// certain outcomes are common for many qudits too.
+pub fn draw_book(rng: &mut Rng, shape: Shape) -> Book {
+    let mut places: Vec<usize> = (0..shape.errors)
+        .map(|_| rng.below(shape.operations + 1))
+        .collect();
+    places.sort_unstable();
+    let mut places = places.into_iter().peekable();
+    let mut book = Book::new(shape.d, shape.n);
+    let mut last = rng.byte_below(shape.n);
+    let mut sweep = 0;
+    for k in 0..=shape.operations {
+        while places.next_if_eq(&k).is_some() {
+            let (p, s) = (rng.byte_below(shape.d), rng.byte_below(shape.d));
+            book.strike(rng.byte_below(shape.n), p, s);
+        }
+        if k == shape.operations {
+            break;
+        }
+        if sweep == 0 && rng.once_in(100) {
+            sweep = shape.n;
+        }
+        if sweep > 0 || rng.once_in(shape.measure_one_in) {
+            last = match sweep {
+                0 if rng.once_in(4) => last,
+                0 => rng.byte_below(shape.n),
+                _ => sweep - 1,
+            };
+            sweep = sweep.saturating_sub(1);
+            let choice = rng.byte_below(shape.d);
+            book.measure(last, choice);
+        } else {
+            let gate = draw_gate(rng, shape.d, shape.n);
+            book.operation(gate);
+        }
+    }
+    book
+}
+
+/// A valid tableau: the zero tableau after drawn gates and errors, by the plain reference.
+pub fn draw_tableau(rng: &mut Rng, d: u8, n: u8) -> Vec<u8> {
+    let (modulus, count) = (i64::from(d), usize::from(n));
+    let mut rows = plain::zero_rows(count);
+    for _ in 0..8 * count {
+        let entry = draw_gate(rng, d, n).to_bytes();
+        let gate = plain::decode(modulus, count, &entry).expect("a drawn gate is one");
+        rows.iter_mut()
+            .for_each(|row| plain::gate(modulus, gate, row));
+    }
+    for row in &mut rows {
+        row.r = i64::from(rng.byte_below(d));
+    }
+    plain::bytes_of(&rows)
+}
+
+/// The zero tableau, by the plain reference.
+pub fn zero_tableau(n: u8) -> Vec<u8> {
+    plain::bytes_of(&plain::zero_rows(n.into()))
+}
+
+/// The bytes, and after them others that no call may touch.
+pub fn with_tail(rng: &mut Rng, mut bytes: Vec<u8>) -> Vec<u8> {
+    let length = rng.below(9);
+    bytes.extend(rng.bytes(length));
+    bytes
+}
+
+// ---- Comparing
+
+/// A result as the specification's two numbers.
+pub fn told(result: Result<usize, Refusal>) -> plain::Told {
+    match result {
+        Ok(count) => (0, count),
+        Err(refusal) => (refusal.number(), refusal.place()),
+    }
+}
+
+/// A direct run and what it left.
+#[derive(Debug, PartialEq, Eq)]
+pub struct Run {
+    pub told: plain::Told,
+    pub tableau: Vec<u8>,
+    pub results: Vec<u8>,
+}
+
+/// Runs the book on copies of the buffers, by the library and by the plain reference, which must
+/// agree in each number and byte. A refusal must leave every byte, and no run may touch the book.
+pub fn run_both(book: &[u8], tableau: &[u8], results: &[u8]) -> Run {
+    let lent = book.to_vec();
+    let (mut by_library, mut by_plain) = (
+        (tableau.to_vec(), results.to_vec()),
+        (tableau.to_vec(), results.to_vec()),
+    );
+    let answer = told(cagvost::direct_run(
+        &lent,
+        &mut by_library.0,
+        &mut by_library.1,
+    ));
+    let expected = plain::direct_run(book, &mut by_plain.0, &mut by_plain.1);
+    assert_eq!(answer, expected, "numbers of the run of {book:02x?}");
+    assert!(lent == book, "the book was written: {book:02x?}");
+    assert!(by_library.0 == by_plain.0, "tableau of {book:02x?}");
+    assert!(by_library.1 == by_plain.1, "results of {book:02x?}");
+    if answer.0 != 0 {
+        assert!(by_library.0 == tableau, "{answer:?} changed the tableau");
+        assert!(by_library.1 == results, "{answer:?} changed the results");
+    }
+    Run {
+        told: answer,
+        tableau: by_library.0,
+        results: by_library.1,
+    }
+}
+
+/// Lays the zero tableau on a copy of the buffer by both, which must agree; a refusal must leave it.
+pub fn layer_both(tableau: &[u8], d: usize, n: usize) -> (plain::Told, Vec<u8>) {
+    let (mut by_library, mut by_plain) = (tableau.to_vec(), tableau.to_vec());
+    let answer = told(cagvost::layer(&mut by_library, d, n).map(|()| 0));
+    assert_eq!(
+        answer,
+        plain::layer(&mut by_plain, d, n),
+        "layer of d {d} n {n}"
+    );
+    assert!(by_library == by_plain, "layer of d {d} n {n}");
+    if answer.0 != 0 {
+        assert!(by_library == tableau, "{answer:?} changed the tableau");
+    }
+    (answer, by_library)
+}
+
+/// Tests a copy of the buffer by both, which must agree; no byte may change.
+pub fn test_both(tableau: &[u8], d: usize, n: usize) -> plain::Told {
+    let lent = tableau.to_vec();
+    let answer = told(cagvost::test_tableau(&lent, d, n).map(|()| 0));
+    assert_eq!(answer, plain::test(tableau, d, n), "test of d {d} n {n}");
+    assert!(lent == tableau, "the test wrote the tableau");
+    answer
+}

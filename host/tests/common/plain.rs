@@ -1,0 +1,545 @@
+//! The specification in plain Rust, with `%` and no thought of speed.
+//!
+//! It uses nothing of the package, so that no fault of the package can hide in both.
+
+/// A returned number and its place.
+pub type Told = (usize, usize);
+
+// ---- Rows
+
+/// ω^r times the product over qudits of X^a Z^b.
+#[derive(Clone, Debug, PartialEq, Eq)]
+pub struct Row {
+    pub a: Vec<i64>,
+    pub b: Vec<i64>,
+    pub r: i64,
+}
+
+fn modulo(d: i64, x: i64) -> i64 {
+    ((x % d) + d) % d
+}
+
+/// Σ x·y over the qudits.
+fn dot(x: &[i64], y: &[i64]) -> i64 {
+    x.iter().zip(y).map(|(x, y)| x * y).sum()
+}
+
+/// The number below d that times u leaves 1.
+pub fn inverse(d: i64, u: i64) -> i64 {
+    (1..d)
+        .find(|v| u * v % d == 1)
+        .expect("u is not a multiple of d")
+}
+
+/// v times w, in this order.
+pub fn product(d: i64, v: &Row, w: &Row) -> Row {
+    let sums = |x: &[i64], y: &[i64]| x.iter().zip(y).map(|(x, y)| (x + y) % d).collect();
+    Row {
+        a: sums(&v.a, &w.a),
+        b: sums(&v.b, &w.b),
+        r: (v.r + w.r + dot(&v.b, &w.a)) % d,
+    }
+}
+
+/// v to the power h.
+pub fn power(d: i64, v: &Row, h: i64) -> Row {
+    let times = |x: &[i64]| x.iter().map(|x| x * h % d).collect();
+    Row {
+        a: times(&v.a),
+        b: times(&v.b),
+        r: (h * v.r + h * (h - 1) / 2 * dot(&v.a, &v.b)) % d,
+    }
+}
+
+/// The pairing of v with w.
+pub fn pairing(d: i64, v: &Row, w: &Row) -> i64 {
+    modulo(d, dot(&v.b, &w.a) - dot(&v.a, &w.b))
+}
+
+/// No power anywhere: the identity, and a frame at first.
+pub fn identity(n: usize) -> Row {
+    Row {
+        a: vec![0; n],
+        b: vec![0; n],
+        r: 0,
+    }
+}
+
+/// ω^r Z on qudit q.
+pub fn z_on(n: usize, q: usize, r: i64) -> Row {
+    let mut row = identity(n);
+    row.b[q] = 1;
+    row.r = r;
+    row
+}
+
+// ---- Tableau
+
+/// The bytes of a tableau of n qudits.
+pub fn tableau_len(n: usize) -> usize {
+    2 * n * (2 * n + 1)
+}
+
+/// The zero tableau: destabilizers, then stabilizers.
+pub fn zero_rows(n: usize) -> Vec<Row> {
+    let mut rows = vec![identity(n); 2 * n];
+    for i in 0..n {
+        rows[i].a[i] = 1;
+        rows[n + i].b[i] = 1;
+    }
+    rows
+}
+
+/// The rows that the buffer begins with.
+pub fn rows_of(n: usize, bytes: &[u8]) -> Vec<Row> {
+    let numbers = |part: &[u8]| part.iter().map(|&x| i64::from(x)).collect::<Vec<_>>();
+    bytes[..tableau_len(n)]
+        .chunks(2 * n + 1)
+        .map(|row| Row {
+            a: numbers(&row[..n]),
+            b: numbers(&row[n..2 * n]),
+            r: i64::from(row[2 * n]),
+        })
+        .collect()
+}
+
+/// The bytes of the rows.
+pub fn bytes_of(rows: &[Row]) -> Vec<u8> {
+    let mut bytes = Vec::new();
+    for row in rows {
+        bytes.extend(row.a.iter().map(|&x| x as u8));
+        bytes.extend(row.b.iter().map(|&x| x as u8));
+        bytes.push(row.r as u8);
+    }
+    bytes
+}
+
+/// Whether the buffer begins with a valid tableau.
+pub fn is_valid(d: i64, n: usize, bytes: &[u8]) -> bool {
+    if bytes[..tableau_len(n)].iter().any(|&x| i64::from(x) >= d) {
+        return false;
+    }
+    let rows = rows_of(n, bytes);
+    (0..2 * n).all(|i| (0..2 * n).all(|j| pairing(d, &rows[i], &rows[j]) == expected(d, n, i, j)))
+}
+
+/// What row i paired with row j must give.
+fn expected(d: i64, n: usize, i: usize, j: usize) -> i64 {
+    if i == j + n {
+        1
+    } else if j == i + n {
+        d - 1
+    } else {
+        0
+    }
+}
+
+// ---- Operations
+
+#[derive(Clone, Copy, Debug, PartialEq, Eq)]
+pub enum Op {
+    Fourier(usize),
+    Phase(usize),
+    Sum(usize, usize),
+    Cz(usize, usize),
+    Swap(usize, usize),
+    Multiplier(usize, i64),
+    Measure(usize),
+}
+
+/// The operation that four bytes mean, if they mean one.
+pub fn decode(d: i64, n: usize, entry: &[u8]) -> Option<Op> {
+    let at = |i: usize| usize::from(entry[i]);
+    let one = at(1) < n && at(2) == 0 && at(3) == 0;
+    let two = at(1) < n && at(2) < n && at(1) != at(2) && at(3) == 0;
+    let factor = i64::from(entry[3]);
+    let many = at(1) < n && at(2) == 0 && factor >= 1 && factor < d;
+    match entry[0] {
+        0 if one => Some(Op::Fourier(at(1))),
+        1 if one => Some(Op::Phase(at(1))),
+        2 if two => Some(Op::Sum(at(1), at(2))),
+        3 if two => Some(Op::Cz(at(1), at(2))),
+        4 if two => Some(Op::Swap(at(1), at(2))),
+        5 if many => Some(Op::Multiplier(at(1), factor)),
+        6 if one => Some(Op::Measure(at(1))),
+        _ => None,
+    }
+}
+
+/// The gate on one row; a measurement does nothing here.
+pub fn gate(d: i64, op: Op, row: &mut Row) {
+    match op {
+        Op::Fourier(q) => {
+            let (a, b) = (row.a[q], row.b[q]);
+            row.a[q] = modulo(d, -b);
+            row.b[q] = a;
+            row.r = modulo(d, row.r - a * b);
+        }
+        Op::Phase(q) => {
+            let a = row.a[q];
+            row.b[q] = (row.b[q] + a) % d;
+            row.r = (row.r + a * (a - 1) / 2) % d;
+        }
+        Op::Sum(c, t) => {
+            row.a[t] = (row.a[t] + row.a[c]) % d;
+            row.b[c] = modulo(d, row.b[c] - row.b[t]);
+        }
+        Op::Cz(c, t) => {
+            row.b[c] = (row.b[c] + row.a[t]) % d;
+            row.b[t] = (row.b[t] + row.a[c]) % d;
+            row.r = (row.r + row.a[c] * row.a[t]) % d;
+        }
+        Op::Swap(c, t) => {
+            row.a.swap(c, t);
+            row.b.swap(c, t);
+        }
+        Op::Multiplier(q, u) => {
+            row.a[q] = row.a[q] * u % d;
+            row.b[q] = row.b[q] * inverse(d, u) % d;
+        }
+        Op::Measure(_) => {}
+    }
+}
+
+/// X^p Z^s on qudit `q`, before operation `place`.
+#[derive(Clone, Copy, Debug, PartialEq, Eq)]
+pub struct Error {
+    pub place: usize,
+    pub q: usize,
+    pub p: i64,
+    pub s: i64,
+}
+
+/// The error on one row.
+pub fn strike(d: i64, error: Error, row: &mut Row) {
+    let Error { q, p, s, .. } = error;
+    row.r = modulo(d, row.r + s * row.a[q] - p * row.b[q]);
+}
+
+// ---- Measurement
+
+/// What a measurement would be.
+#[derive(Clone, Copy, Debug, PartialEq, Eq)]
+pub enum Look {
+    /// With the number of its pivot among the stabilizers.
+    Free(usize),
+    /// With its outcome.
+    Certain(i64),
+    /// A certain product that is not Z on the qudit: refusal 10.
+    NotZ,
+}
+
+pub fn look(d: i64, n: usize, rows: &[Row], q: usize) -> Look {
+    if let Some(k) = (0..n).find(|&k| rows[n + k].a[q] != 0) {
+        return Look::Free(k);
+    }
+    let mut whole = identity(n);
+    for i in 0..n {
+        whole = product(d, &whole, &power(d, &rows[n + i], rows[i].a[q]));
+    }
+    let outcome = modulo(d, -whole.r);
+    if whole == z_on(n, q, whole.r) {
+        Look::Certain(outcome)
+    } else {
+        Look::NotZ
+    }
+}
+
+/// The rows after a free measurement of q with pivot k and outcome m.
+pub fn collapse(d: i64, n: usize, rows: &mut [Row], q: usize, k: usize, m: i64) {
+    let pivot = rows[n + k].clone();
+    let e = inverse(d, pivot.a[q]);
+    for (i, row) in rows.iter_mut().enumerate() {
+        if i == k {
+            *row = power(d, &pivot, e);
+        } else if i == n + k {
+            *row = z_on(n, q, modulo(d, -m));
+        } else {
+            let h = modulo(d, -row.a[q] * e);
+            *row = product(d, row, &power(d, &pivot, h));
+        }
+    }
+}
+
+/// Measures q: the outcome and the mark, or None for refusal 10.
+fn measure(d: i64, n: usize, rows: &mut [Row], q: usize, choice: i64) -> Option<[u8; 2]> {
+    match look(d, n, rows, q) {
+        Look::Free(k) => {
+            collapse(d, n, rows, q, k, choice);
+            Some([choice as u8, 1])
+        }
+        Look::Certain(outcome) => Some([outcome as u8, 0]),
+        Look::NotZ => None,
+    }
+}
+
+// ---- The book
+
+/// An accepted book.
+#[derive(Clone, Debug, PartialEq, Eq)]
+pub struct Book {
+    pub d: i64,
+    pub n: usize,
+    pub operations: Vec<Op>,
+    pub errors: Vec<Error>,
+    pub choices: Vec<i64>,
+}
+
+impl Book {
+    pub fn measurements(&self) -> usize {
+        count_measurements(&self.operations)
+    }
+
+    /// The errors of place k, in the order of their entries.
+    fn errors_at(&self, k: usize) -> impl Iterator<Item = Error> {
+        self.errors.iter().copied().filter(move |e| e.place == k)
+    }
+}
+
+fn count_measurements(operations: &[Op]) -> usize {
+    operations
+        .iter()
+        .filter(|o| matches!(o, Op::Measure(_)))
+        .count()
+}
+
+/// Refusals 2 and 3.
+fn check_sizes(d: usize, n: usize) -> Result<(), Told> {
+    if ![3, 5, 7, 11, 13, 17, 19, 23, 29, 31].contains(&d) {
+        return Err((2, 0));
+    }
+    if n == 0 || n > 64 {
+        return Err((3, 0));
+    }
+    Ok(())
+}
+
+/// The accepted book, or refusal 1 to 7.
+pub fn read(book: &[u8]) -> Result<Book, Told> {
+    if book.len() < 22 || book[0] != 81 || book[3] != 3 {
+        return Err((1, 0));
+    }
+    let (d, n) = (i64::from(book[1]), usize::from(book[2]));
+    check_sizes(usize::from(book[1]), n)?;
+    let [first, second, third] = read_contents(book)?;
+    let operations = read_operations(d, n, first)?;
+    let errors = read_errors(d, n, operations.len(), second)?;
+    let choices = read_choices(d, count_measurements(&operations), third)?;
+    Ok(Book {
+        d,
+        n,
+        operations,
+        errors,
+        choices,
+    })
+}
+
+fn two_bytes(bytes: &[u8], i: usize) -> usize {
+    usize::from(bytes[i]) + 256 * usize::from(bytes[i + 1])
+}
+
+/// The three bodies, or refusal 4.
+fn read_contents(book: &[u8]) -> Result<[&[u8]; 3], Told> {
+    let (sizes, limits) = ([4, 5, 1], [4096, 2048, 4096]);
+    let mut ends = [22; 4];
+    for i in 0..3 {
+        let entry = &book[4 + 6 * i..10 + 6 * i];
+        let (offset, length) = (two_bytes(entry, 2), two_bytes(entry, 4));
+        let named = usize::from(entry[0]) == i + 1 && entry[1] == 0 && offset == ends[i];
+        let whole = length % sizes[i] == 0 && length / sizes[i] <= limits[i];
+        if !named || !whole {
+            return Err((4, i));
+        }
+        ends[i + 1] = offset + length;
+    }
+    if ends[3] != book.len() {
+        return Err((4, 3));
+    }
+    Ok([0, 1, 2].map(|i| &book[ends[i]..ends[i + 1]]))
+}
+
+fn read_operations(d: i64, n: usize, body: &[u8]) -> Result<Vec<Op>, Told> {
+    let entries = body.chunks(4).enumerate();
+    entries
+        .map(|(i, entry)| decode(d, n, entry).ok_or((5, i)))
+        .collect()
+}
+
+fn read_errors(d: i64, n: usize, operations: usize, body: &[u8]) -> Result<Vec<Error>, Told> {
+    let mut errors = Vec::new();
+    let mut lowest = 0;
+    for (i, entry) in body.chunks(5).enumerate() {
+        let error = Error {
+            place: two_bytes(entry, 0),
+            q: usize::from(entry[2]),
+            p: i64::from(entry[3]),
+            s: i64::from(entry[4]),
+        };
+        let placed = error.place >= lowest && error.place <= operations;
+        if !placed || error.q >= n || error.p >= d || error.s >= d {
+            return Err((6, i));
+        }
+        lowest = error.place;
+        errors.push(error);
+    }
+    Ok(errors)
+}
+
+fn read_choices(d: i64, measurements: usize, body: &[u8]) -> Result<Vec<i64>, Told> {
+    if body.len() != measurements {
+        return Err((7, body.len().min(measurements)));
+    }
+    let choices: Vec<i64> = body.iter().map(|&c| i64::from(c)).collect();
+    match choices.iter().position(|&c| c >= d) {
+        Some(i) => Err((7, i)),
+        None => Ok(choices),
+    }
+}
+
+// ---- Calls
+
+/// Lays the zero tableau.
+pub fn layer(tableau: &mut [u8], d: usize, n: usize) -> Told {
+    if let Err(told) = check_sizes(d, n) {
+        return told;
+    }
+    if tableau.len() < tableau_len(n) {
+        return (8, 0);
+    }
+    tableau[..tableau_len(n)].copy_from_slice(&bytes_of(&zero_rows(n)));
+    (0, 0)
+}
+
+/// Tests a tableau.
+pub fn test(tableau: &[u8], d: usize, n: usize) -> Told {
+    if let Err(told) = check_sizes(d, n) {
+        return told;
+    }
+    if tableau.len() < tableau_len(n) {
+        return (8, 0);
+    }
+    if !is_valid(d as i64, n, tableau) {
+        return (9, 0);
+    }
+    (0, 0)
+}
+
+/// The direct run: each error strikes every row at its place.
+pub fn direct_run(book: &[u8], tableau: &mut [u8], results: &mut [u8]) -> Told {
+    let book = match read(book) {
+        Ok(book) => book,
+        Err(told) => return told,
+    };
+    let (d, n) = (book.d, book.n);
+    if tableau.len() < tableau_len(n) || results.len() < 2 * book.measurements() {
+        return (8, 0);
+    }
+    if !is_valid(d, n, tableau) {
+        return (9, 0);
+    }
+    let mut rows = rows_of(n, tableau);
+    let mut done = 0;
+    for k in 0..=book.operations.len() {
+        for error in book.errors_at(k) {
+            rows.iter_mut().for_each(|row| strike(d, error, row));
+        }
+        match book.operations.get(k) {
+            None => {}
+            Some(&Op::Measure(q)) => {
+                let Some(result) = measure(d, n, &mut rows, q, book.choices[done]) else {
+                    tableau[..tableau_len(n)].copy_from_slice(&bytes_of(&rows));
+                    return (10, done);
+                };
+                results[2 * done..2 * done + 2].copy_from_slice(&result);
+                done += 1;
+            }
+            Some(&op) => rows.iter_mut().for_each(|row| gate(d, op, row)),
+        }
+    }
+    tableau[..tableau_len(n)].copy_from_slice(&bytes_of(&rows));
+    (0, done)
+}
+
+/// The frame run: errors change the frame alone, and the rows' phases are shifted at the end. The
+/// third number is the verdict.
+pub fn frame_run(
+    book: &[u8],
+    tableau: &mut [u8],
+    results: &mut [u8],
+    shifts: &mut [u8],
+    frame: &mut [u8],
+) -> (usize, usize, usize) {
+    let book = match read(book) {
+        Ok(book) => book,
+        Err((number, place)) => return (number, place, 0),
+    };
+    let (d, n) = (book.d, book.n);
+    let short = tableau.len() < tableau_len(n) || results.len() < 2 * book.measurements();
+    if short || shifts.len() < 2 * n || frame.len() < 2 * n {
+        return (8, 0, 0);
+    }
+    if !is_valid(d, n, tableau) {
+        return (9, 0, 0);
+    }
+    let mut rows = rows_of(n, tableau);
+    let mut carried = identity(n);
+    let mut done = 0;
+    for k in 0..=book.operations.len() {
+        for error in book.errors_at(k) {
+            carry(d, error, &mut carried);
+        }
+        match book.operations.get(k) {
+            None => {}
+            Some(&Op::Measure(q)) => {
+                let Some([clean, mark]) = measure(d, n, &mut rows, q, book.choices[done]) else {
+                    tableau[..tableau_len(n)].copy_from_slice(&bytes_of(&rows));
+                    return (10, done, 0);
+                };
+                results[2 * done] = ((i64::from(clean) + carried.a[q]) % d) as u8;
+                results[2 * done + 1] = mark;
+                done += 1;
+            }
+            Some(&op) => {
+                rows.iter_mut().for_each(|row| gate(d, op, row));
+                gate(d, op, &mut carried);
+            }
+        }
+    }
+    let mut verdict = 0;
+    for (row, shift) in rows.iter_mut().zip(shifts) {
+        let by = pairing(d, &carried, row);
+        row.r = (row.r + by) % d;
+        *shift = by as u8;
+        if by != 0 {
+            verdict = 1;
+        }
+    }
+    tableau[..tableau_len(n)].copy_from_slice(&bytes_of(&rows));
+    // A frame has no phase: the last byte of its row is left off.
+    frame[..2 * n].copy_from_slice(&bytes_of(&[carried])[..2 * n]);
+    (0, done, verdict)
+}
+
+/// The error joins the frame.
+fn carry(d: i64, error: Error, frame: &mut Row) {
+    frame.a[error.q] = (frame.a[error.q] + error.p) % d;
+    frame.b[error.q] = (frame.b[error.q] + error.s) % d;
+}
+
+/// Each choice of the book raised by the X power that the frame of its errors has on the measured
+/// qudit just before that measurement.
+pub fn raised_choices(book: &Book) -> Vec<u8> {
+    let mut carried = identity(book.n);
+    let mut raised = Vec::new();
+    for (k, &op) in book.operations.iter().enumerate() {
+        for error in book.errors_at(k) {
+            carry(book.d, error, &mut carried);
+        }
+        if let Op::Measure(q) = op {
+            let choice = book.choices[raised.len()];
+            raised.push(((choice + carried.a[q]) % book.d) as u8);
+        }
+        gate(book.d, op, &mut carried);
+    }
+    raised
+}
