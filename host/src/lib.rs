@@ -45,12 +45,21 @@
 //! # Ok::<(), cagvost::Refusal>(())
 //! ```
 //!
+//! # Carrying the errors
+//!
+//! [`frame_run`] runs the same book without touching the rows by errors: it carries them as one
+//! frame, shifts the results and, at the end, the rows' phases by it, and tells whether any row was
+//! shifted. It ends with the bytes of a [`direct_run`] whose choices are raised by the frame's X
+//! power on the measured qudit.
+//!
 //! # Buffers
 //!
 //! - The *tableau* has 2n rows of 2n + 1 bytes: n X powers, n Z powers and a phase. Destabilizers
 //!   come first, then stabilizers; [`tableau_len`] is its size.
 //! - The *results* have 2 bytes for each measurement: the outcome, then 0 if it was certain or 1 if
 //!   it was free; [`results_len`] is their size.
+//! - The *shifts* of a frame run have a byte for each row, and its *frame* n X powers and n Z
+//!   powers; [`shifts_len`] and [`frame_len`] are their sizes.
 //!
 //! A buffer may be longer than needed: bytes past the needed ones are kept.
 //!
@@ -64,10 +73,12 @@
 #![deny(unsafe_code)]
 
 pub mod book;
+mod frame;
 #[allow(unsafe_code)]
 mod library;
 mod refusal;
 
+pub use frame::{FrameRun, Verdict, frame_len, frame_run, shifts_len};
 pub use refusal::Refusal;
 
 use library::Answer;

@@ -18,6 +18,15 @@ pub(crate) struct Answer {
     pub(crate) place: usize,
 }
 
+/// What the frame run returns: an answer and its verdict, which is 0 with any refusal.
+#[repr(C)]
+#[derive(Clone, Copy, Debug, PartialEq, Eq)]
+pub(crate) struct FrameAnswer {
+    pub(crate) number: usize,
+    pub(crate) place: usize,
+    pub(crate) verdict: usize,
+}
+
 unsafe extern "C" {
     fn cagvost_layer(t: *mut u8, t_len: usize, d: usize, n: usize) -> Answer;
     fn cagvost_test(t: *const u8, t_len: usize, d: usize, n: usize) -> Answer;
@@ -29,6 +38,18 @@ unsafe extern "C" {
         results: *mut u8,
         results_len: usize,
     ) -> Answer;
+    fn cagvost_frame_run(
+        book: *const u8,
+        book_len: usize,
+        t: *mut u8,
+        t_len: usize,
+        results: *mut u8,
+        results_len: usize,
+        shifts: *mut u8,
+        shifts_len: usize,
+        frame: *mut u8,
+        frame_len: usize,
+    ) -> FrameAnswer;
 }
 
 pub(crate) fn layer(tableau: &mut [u8], d: usize, n: usize) -> Answer {
@@ -55,7 +76,31 @@ pub(crate) fn direct_run(book: &[u8], tableau: &mut [u8], results: &mut [u8]) ->
     }
 }
 
-/// The second number of a success, which the safe functions partly drop.
+pub(crate) fn frame_run(
+    book: &[u8],
+    tableau: &mut [u8],
+    results: &mut [u8],
+    shifts: &mut [u8],
+    frame: &mut [u8],
+) -> FrameAnswer {
+    // SAFETY: see the head of this module; the library does not write the book.
+    unsafe {
+        cagvost_frame_run(
+            book.as_ptr(),
+            book.len(),
+            tableau.as_mut_ptr(),
+            tableau.len(),
+            results.as_mut_ptr(),
+            results.len(),
+            shifts.as_mut_ptr(),
+            shifts.len(),
+            frame.as_mut_ptr(),
+            frame.len(),
+        )
+    }
+}
+
+/// The numbers that the safe functions drop: a success's second, a refusal's verdict.
 #[cfg(test)]
 mod tests {
     use super::*;
@@ -83,5 +128,31 @@ mod tests {
         book.measure(0, 1).measure(0, 2).measure(0, 0);
         let answer = direct_run(&book.to_bytes(), &mut tableau, &mut [0; 6]);
         assert_eq!((answer.number, answer.place), (0, 3));
+    }
+
+    #[test]
+    fn a_frame_run_ends_with_its_verdict_and_a_refusal_with_0() {
+        let numbers = |a: FrameAnswer| (a.number, a.place, a.verdict);
+        let mut book = Book::new(3, 1);
+        book.measure(0, 1);
+        let run = |book: &Book, results: &mut [u8]| {
+            let mut tableau = [0; crate::tableau_len(1)];
+            layer(&mut tableau, 3, 1);
+            let (mut shifts, mut frame) = ([7; 2], [7; 2]);
+            let book = book.to_bytes();
+            numbers(frame_run(
+                &book,
+                &mut tableau,
+                results,
+                &mut shifts,
+                &mut frame,
+            ))
+        };
+        assert_eq!(run(&book, &mut [0; 2]), (0, 1, 0));
+        book.strike(0, 2, 0);
+        assert_eq!(run(&book, &mut [0; 2]), (0, 1, 1));
+        assert_eq!(run(&book, &mut []), (8, 0, 0));
+        book.choice(0);
+        assert_eq!(run(&book, &mut [0; 2]), (7, 1, 0));
     }
 }

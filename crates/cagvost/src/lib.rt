@@ -1,8 +1,10 @@
-// What the host software calls: layer, tableau test and direct run, on numbers and byte slices.
+// What the host software calls: layer, tableau test and the two runs, on numbers and byte slices.
 ghost use mathlib.Core.Path.{_≡_};
 ghost use Rattle.layer.specs.Layer.{layerNumber, layerLeaves};
 ghost use Rattle.validity.specs.Validity.{testNumber};
 ghost use Rattle.direct.specs.DirectBook.{directBook};
+ghost use Rattle.framed.specs.FrameBook.{frameBook};
+use framed::FrameAnswer;
 use tableau::Answer;
 
 // Lays the zero tableau of n qudits of dimension d, or refuses by 2, 3 or 8.
@@ -27,4 +29,18 @@ pub extern "C" fn cagvost_direct_run(book: &[u8], t: &mut [u8], results: &mut [u
     ensures { λ r. ⌜ record { number = r .number; place = r .place; tableau = now (t .exit); results = now (results .exit) } ≡ directBook (now (book .entry)) (now (t .entry)) (now (results .entry)) ⌝ }
 {
     direct::direct_run(book, t, results)
+}
+
+// The frame run of a book from the lent tableau.
+#[no_mangle]
+pub extern "C" fn cagvost_frame_run(
+    book: &[u8],
+    t: &mut [u8],
+    results: &mut [u8],
+    shifts: &mut [u8],
+    frame: &mut [u8],
+) -> FrameAnswer
+    ensures { λ r. ⌜ record { number = r .number; place = r .place; verdict = r .verdict; left = record { tableau = now (t .exit); results = now (results .exit); shifts = now (shifts .exit); frame = now (frame .exit) } } ≡ frameBook (now (book .entry)) (record { tableau = now (t .entry); results = now (results .entry); shifts = now (shifts .entry); frame = now (frame .entry) }) ⌝ }
+{
+    framed::frame_run(book, t, results, shifts, frame)
 }

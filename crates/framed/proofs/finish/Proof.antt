@@ -1,0 +1,91 @@
+-- `framed::finish` meets its contract. The written shifts are all 0 exactly if the verdict is clean.
+-- Assumes nothing.
+use mathlib.Core.Path.{_≡_, refl, sym, ap, _∙_}
+use mathlib.Core.Bool.{Bool}
+use mathlib.Core.List.{List, _++_}
+use Prim.Native.Nat.{ℕ, zero, suc, _*_, _<_}
+use native.Mathlib.Omega.{arith}
+use denote.Ref.{now}
+use lib.Dec.{eqb}
+use lib.ListN.{drop, List·getD-append}
+use lib.Seq.{length-take-le}
+use borrow.Author.Needs.{needs}
+use Rattle.row.specs.Row.{tab}
+use Rattle.row.proofs.Fill.{tab-length, tab-get}
+use Rattle.search.specs.Search.{all}
+use Rattle.run.specs.Frame.{shiftAt, noShift, verdictOf}
+use Rattle.framed.specs.Progress.{isZero}
+use Rattle.framed.proofs.finish.Statement.{statement}
+use Rattle.framed.proofs.finish.Tie as tie
+
+shift-rows-requires : tie.Need-shift-rows-requires
+shift-rows-requires c κs = search needs
+
+mul-powers : tie.Need-mul-powers
+mul-powers c = search needs
+
+slice-relend-prefix-copy : tie.Need-slice-relend-prefix-copy
+slice-relend-prefix-copy c = search needs
+
+slice-aggregate-copy : tie.Need-slice-aggregate-copy
+slice-aggregate-copy c =
+    let s = c .before .before .before .before .before .before .before .before .before .before .before .before in
+    sym (length-take-le (2 * s .args .n) (now (s .args .out)) (s .pre .4))
+
+copy-requires : tie.Need-copy-requires
+copy-requires c κs =
+    let s = c .before .before .before .before .before .before .before .before .before .before .before .before in
+    length-take-le (2 * s .args .n) (now (s .args .out)) (s .pre .4) ∙ sym (s .pre .7)
+
+verdict-requires : tie.Need-verdict-requires
+verdict-requires c κs = search needs
+
+same-length : tie.Need-same-length
+same-length c = search needs
+
+same-length-2 : tie.Need-same-length-2
+same-length-2 c = search needs
+
+same-length-3 : tie.Need-same-length-3
+same-length-3 c = search needs
+
+all-same : (f g : ℕ → Bool) (m : ℕ) → ((i : ℕ) → i < m → f i ≡ g i) → all f m ≡ all g m
+unfolding all
+all-same f g zero h = refl
+all-same f g (suc m) h = rw (all-same f g m (λ i l. h i (omega arith)), h m (omega arith))
+
+written : (d n : ℕ) (F t rest : List ℕ) → all (isZero (tab (shiftAt d n F t) (2 * n) ++ rest)) (2 * n) ≡ all (noShift d n F t) (2 * n)
+written d n F t rest =
+    let f = shiftAt d n F t in
+    all-same _ _ (2 * n)
+    (λ i l.
+    ap (λ (x : ℕ). eqb x 0)
+    (List·getD-append (tab f (2 * n)) rest 0 i (omega (arith, tab-length f (2 * n))) ∙ tab-get f (2 * n) i 0 l))
+
+returns : tie.Need-returns
+unfolding verdictOf
+returns c =
+    let p = c .before .before .before .before in
+    let r = p .before .before .before .before .before .before in
+    let a = r .before .before .before .before .before .before .before .args in
+    let e = r .shift-rows .ensures in (
+      e .0,
+      e .1,
+      rw (p .copy .ensures),
+      c .verdict .ensures ∙ rw (e .1, written (a .d) (a .n) (now (a .frame)) (now (a .t)) (drop (2 * a .n) (now (a .shifts)))),
+    )
+
+pub finish-spec : {M : Type 1} → statement M
+finish-spec =
+    tie.close
+    (tie.spec
+    shift-rows-requires
+    mul-powers
+    slice-relend-prefix-copy
+    slice-aggregate-copy
+    copy-requires
+    verdict-requires
+    same-length
+    same-length-2
+    same-length-3
+    returns)

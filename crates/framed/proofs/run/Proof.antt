@@ -1,0 +1,63 @@
+-- `framed::run` meets its contract.
+-- Assumes nothing.
+use mathlib.Core.Path.{_≡_, refl, sym, ap}
+use mathlib.Core.List.{_∷_}
+use Prim.Native.Nat.{ℕ, zero, suc, _*_, _≤_}
+use native.Mathlib.Nat.{le-of-suc-le-suc}
+use native.Mathlib.Omega.{arith}
+use lib.ListN.{take, replicate}
+use lib.Seq.{length-take-le}
+use borrow.Author.Needs.{needs}
+use Rattle.framed.proofs.run.Statement.{statement}
+use Rattle.framed.proofs.run.Tie as tie
+
+take-replicate : {A : Type 0} (a : A) (k m : ℕ) → k ≤ m → take k (replicate m a) ≡ replicate k a
+take-replicate a zero m h = refl
+take-replicate a (suc k) zero h = absurd (omega arith)
+take-replicate a (suc k) (suc m) h = ap (_∷_ a) (take-replicate a k m (le-of-suc-le-suc h))
+
+mul-powers : tie.Need-mul-powers
+mul-powers c = search needs
+
+array-borrow-prefix-frame : tie.Need-array-borrow-prefix-frame
+array-borrow-prefix-frame c = search needs
+
+slice-aggregate-run-in : tie.Need-slice-aggregate-run-in
+slice-aggregate-run-in c =
+    let s = c .before .before .before .before .before .before .before .before .before .before .before .before in
+    sym (length-take-le (2 * s .args .n) (replicate 128 0) (omega arith))
+
+run-in-requires : tie.Need-run-in-requires
+run-in-requires c κs =
+    let s = c .before .before .before .before .before .before .before .before .before .before .before .before in
+    let p = s .pre in
+    (p .0, p .1, p .2, p .3, p .4, p .5, p .6, take-replicate 0 (2 * s .args .n) 128 (omega arith), p .7)
+
+same-length : tie.Need-same-length
+same-length c = search needs
+
+same-length-2 : tie.Need-same-length-2
+same-length-2 c = search needs
+
+same-length-3 : tie.Need-same-length-3
+same-length-3 c = search needs
+
+same-length-4 : tie.Need-same-length-4
+same-length-4 c = search needs
+
+returns : tie.Need-returns
+returns c = search needs
+
+pub run-spec : {M : Type 1} → statement M
+run-spec =
+    tie.close
+    (tie.spec
+    mul-powers
+    array-borrow-prefix-frame
+    slice-aggregate-run-in
+    run-in-requires
+    same-length
+    same-length-2
+    same-length-3
+    same-length-4
+    returns)

@@ -1,0 +1,60 @@
+-- `framed::verdict` meets its contract.
+-- Assumes nothing.
+use mathlib.Core.Path.{_≡_, refl}
+use mathlib.Core.Bool.{true}
+use Prim.Native.Nat.{_-_, _≤_}
+use native.Mathlib.Nat.{le-antisymm}
+use native.Mathlib.Omega.{arith}
+use borrow.Author.Needs.{needs}
+use borrow.Author.Tests.{eq-eqb, ne-eqb}
+use Rattle.search.specs.Search.{all}
+use Rattle.search.proofs.Search.{all-more, all-fails}
+use Rattle.framed.specs.Progress.{isZero}
+use Rattle.framed.proofs.verdict.Statement.{statement}
+use Rattle.framed.proofs.verdict.Tie as tie
+
+abbrev Inv-loop : tie.InvT-loop
+Inv-loop shifts n rows i₀ i = (i ≤ rows) × (all (isZero shifts) i ≡ true)
+
+abbrev μ-loop : tie.MeasureT-loop
+μ-loop shifts n rows i₀ i = rows - i
+
+mul-rows : tie.Need-mul-rows Inv-loop μ-loop
+mul-rows c = search needs
+
+loop-holds : tie.Need-loop-holds Inv-loop μ-loop
+unfolding all
+loop-holds c = (omega arith, refl)
+
+shared-slice-read-if1 : tie.Need-shared-slice-read-if1 Inv-loop μ-loop
+shared-slice-read-if1 c = search needs
+
+returns : tie.Need-returns Inv-loop μ-loop
+returns c = rw (all-fails _ _ _ (c .before .before .loop-test .taken) (ne-eqb _ _ (c .if1 .taken)))
+
+add-i : tie.Need-add-i Inv-loop μ-loop
+add-i c = search needs
+
+loop-less : tie.Need-loop-less Inv-loop μ-loop
+loop-less c = search needs
+
+loop-again : tie.Need-loop-again Inv-loop μ-loop
+loop-again c = (omega arith, all-more _ _ (c .before .before .before .loop .inv .1) (eq-eqb _ _ (c .if1 .left)))
+
+returns-2 : tie.Need-returns-2 Inv-loop μ-loop
+returns-2 c = rw (le-antisymm (c .loop-test .left) (c .before .loop .inv .0), c .before .loop .inv .1)
+
+pub verdict-spec : {M : Type 1} → statement M
+verdict-spec =
+    tie.close
+    (tie.spec
+    Inv-loop
+    μ-loop
+    mul-rows
+    loop-holds
+    shared-slice-read-if1
+    returns
+    add-i
+    loop-less
+    loop-again
+    returns-2)

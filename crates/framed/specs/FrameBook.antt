@@ -1,0 +1,67 @@
+-- The frame run of a book: what is returned, and what is left in the buffers.
+use mathlib.Core.Bool.{Bool, _&&_}
+use mathlib.Core.List.{List}
+use Prim.Native.Nat.{ℕ, _+_, _*_}
+use lib.Dec.{leb}
+use lib.ListN.{length}
+use Rattle.search.specs.Search.{unless}
+use Rattle.validity.specs.Validity.{valid}
+use Rattle.body.specs.Body.{Told, refused, accepted}
+use Rattle.book.specs.Book.{readBook}
+use Rattle.book.specs.Decoded.{opsIn, errorsIn, choicesIn, measurementsIn}
+use Rattle.run.specs.Run.{Run, done}
+use Rattle.run.specs.Run as run
+use Rattle.run.specs.Frame.{Ended, frameRun}
+
+-- the four lent buffers
+pub record Buffers : Type 0 where
+  pub tableau : List ℕ
+  pub results : List ℕ
+  pub shifts : List ℕ
+  pub frame : List ℕ
+
+pub record FrameLeft : Type 0 where
+  pub number : ℕ
+  pub place : ℕ
+  pub verdict : ℕ
+  pub left : Buffers
+
+-- Needed: tableau 2n(2n+1) bytes; results 2 per measurement; the frame run also 2n for shifts and 2n for the frame.
+unfoldable pub frameRoomy : ℕ → ℕ → Buffers → Bool
+frameRoomy n measurements lent =
+    leb (2 * n * (2 * n + 1)) (length (lent .tableau)) && (leb (2 * measurements) (length (lent .results))
+    && (leb (2 * n) (length (lent .shifts)) && leb (2 * n) (length (lent .frame))))
+
+-- The third number is the verdict: 0 clean, 1 shifted, and 0 with any refusal. Number 10 leaves shifts and frame unchanged.
+abbrev pub frameEnded : ℕ → Buffers → Run Ended → FrameLeft
+frameEnded measurements lent (run.refused j t results) =
+    record {
+      number = 10;
+      place = j;
+      verdict = 0;
+      left = record { tableau = t; results = results; shifts = lent .shifts; frame = lent .frame };
+    }
+frameEnded measurements lent (done end) =
+    record {
+      number = 0;
+      place = measurements;
+      verdict = end .verdict;
+      left = record { tableau = end .rows; results = end .results; shifts = end .shifts; frame = end .frame };
+    }
+
+-- a refusal that leaves every buffer unchanged
+abbrev pub turnedAway : ℕ → ℕ → Buffers → FrameLeft
+turnedAway number place lent = record { number = number; place = place; verdict = 0; left = lent }
+
+-- 1 to 7, then 8, then 9
+unfoldable pub frameTold : List ℕ → Buffers → Told → FrameLeft
+frameTold s lent (refused number place) = turnedAway number place lent
+frameTold s lent (accepted d n operations errors choices) =
+    unless (frameRoomy n (measurementsIn s d n) lent) (turnedAway 8 0 lent)
+    (unless (valid d n (lent .tableau)) (turnedAway 9 0 lent)
+    (frameEnded (measurementsIn s d n) lent
+    (frameRun d n (opsIn s d n) (errorsIn s) (choicesIn s) (record { rows = lent .tableau; results = lent .results }) (lent .shifts)
+    (lent .frame))))
+
+unfoldable pub frameBook : List ℕ → Buffers → FrameLeft
+frameBook s lent = frameTold s lent (readBook s)

@@ -1,0 +1,2 @@
+pub mod FrameBook
+pub mod Progress
