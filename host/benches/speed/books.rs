@@ -1,0 +1,128 @@
+//! The books that are timed, drawn alike on every machine.
+
+use crate::common::plain;
+use crate::common::{Rng, draw_gate};
+use cagvost::book::{Book, MAX_ERRORS, MAX_OPERATIONS, Operation};
+
+/// What a full book has beside its 2,048 errors.
+#[derive(Clone, Copy)]
+pub enum Mix {
+    /// One operation in sixteen is a measurement, and one of four of these repeats the last. At
+    /// the end all qudits are measured.
+    Mixed,
+    /// Gates alone.
+    Gates,
+    /// 1,024 times three gates and the measurement of one of the last eight qudits. It is free: the
+    /// set had Z on that qudit since it was last measured, and Fourier makes this X.
+    Measuring,
+}
+
+/// A book of 4,096 operations and 2,048 errors, one before every second operation.
+pub fn full(mix: Mix, d: u8, n: u8) -> Book {
+    let mut rng = Rng(u64::from(d) * 100 + u64::from(n));
+    let mut book = Book::new(d, n);
+    for k in 0..MAX_OPERATIONS {
+        if k % (MAX_OPERATIONS / MAX_ERRORS) == 0 {
+            let (p, s) = (rng.byte_below(d), rng.byte_below(d));
+            book.strike(rng.byte_below(n), p, s);
+        }
+        match mix {
+            Mix::Mixed => mixed(&mut rng, k, &mut book),
+            Mix::Gates => _ = book.operation(draw_gate(&mut rng, d, n)),
+            Mix::Measuring => measuring(&mut rng, k, &mut book),
+        }
+    }
+    book
+}
+
+/// Adds operation k of a mixed book.
+fn mixed(rng: &mut Rng, k: usize, book: &mut Book) {
+    let (d, n) = (book.dimension(), book.qudits());
+    let left = MAX_OPERATIONS - k;
+    if left <= n.into() {
+        book.measure(left as u8 - 1, rng.byte_below(d));
+    } else if rng.once_in(16) {
+        let again = book.operations().iter().rev().find_map(|o| match o {
+            Operation::Measure { q } => Some(*q),
+            _ => None,
+        });
+        let q = again.filter(|_| rng.once_in(4));
+        book.measure(q.unwrap_or(rng.byte_below(n)), rng.byte_below(d));
+    } else {
+        book.operation(draw_gate(rng, d, n));
+    }
+}
+
+/// Adds operation k of a measuring book: a gate on the other qudits, CZ, Fourier, measurement.
+fn measuring(rng: &mut Rng, k: usize, book: &mut Book) {
+    let (d, others) = (book.dimension(), book.qudits() - 8);
+    let q = others + (k / 4 % 8) as u8;
+    match k % 4 {
+        0 => book.operation(draw_gate(rng, d, others)),
+        1 => book.operation(Operation::Cz {
+            c: q,
+            t: rng.byte_below(others),
+        }),
+        2 => book.operation(Operation::Fourier { q }),
+        _ => book.measure(q, rng.byte_below(d)),
+    };
+}
+
+/// The largest book of one gate, without errors.
+pub fn of_one_gate(d: u8, n: u8, gate: Operation) -> Book {
+    let mut book = Book::new(d, n);
+    for _ in 0..MAX_OPERATIONS {
+        book.operation(gate);
+    }
+    book
+}
+
+/// The largest book of one error, without operations.
+pub fn of_one_error(d: u8, n: u8) -> Book {
+    let mut book = Book::new(d, n);
+    for _ in 0..MAX_ERRORS {
+        book.strike(9 % n, 1, 2);
+    }
+    book
+}
+
+/// So many measurements, of one qudit after the other.
+pub fn of_measurements(d: u8, n: u8, count: usize) -> Book {
+    let mut book = Book::new(d, n);
+    for q in (0..n).cycle().take(count) {
+        book.measure(q, 1);
+    }
+    book
+}
+
+/// A valid tableau without order: the zero tableau after a full book of gates.
+pub fn dense_tableau(d: u8, n: u8) -> Vec<u8> {
+    let mut rng = Rng(1000 + u64::from(d));
+    after_gates(d, n, || draw_gate(&mut rng, d, n))
+}
+
+/// A valid tableau in which every measurement is certain, as the product of many stabilizers: with
+/// no Fourier gate, no stabilizer gets an X power.
+pub fn certain_tableau(d: u8, n: u8) -> Vec<u8> {
+    let mut rng = Rng(1000 + u64::from(d));
+    after_gates(d, n, || {
+        loop {
+            let gate = draw_gate(&mut rng, d, n);
+            if !matches!(gate, Operation::Fourier { .. }) {
+                return gate;
+            }
+        }
+    })
+}
+
+/// The zero tableau after 4,096 gates.
+fn after_gates(d: u8, n: u8, mut gate: impl FnMut() -> Operation) -> Vec<u8> {
+    let mut rows = plain::zero_rows(n.into());
+    for _ in 0..MAX_OPERATIONS {
+        let gate = plain::decode(d.into(), n.into(), &gate().to_bytes());
+        let gate = gate.expect("a drawn gate is one");
+        rows.iter_mut()
+            .for_each(|row| plain::gate(d.into(), gate, row));
+    }
+    plain::bytes_of(&rows)
+}

@@ -1,0 +1,132 @@
+//! The calls that are timed: each by Cagvost, by the tuned Rust and by the plain Rust.
+
+use crate::common::plain;
+use crate::tuned;
+use cagvost::book::Book;
+use cagvost::{Refusal, Verdict};
+
+/// The buffers of a call. A direct run leaves the last two, and the tableau test leaves all.
+#[derive(Clone, PartialEq, Eq)]
+pub struct Buffers {
+    pub tableau: Vec<u8>,
+    pub results: Vec<u8>,
+    pub shifts: Vec<u8>,
+    pub frame: Vec<u8>,
+}
+
+impl Buffers {
+    /// Copies the bytes of others of the same lengths.
+    pub fn refill(&mut self, from: &Buffers) {
+        self.tableau.copy_from_slice(&from.tableau);
+        self.results.copy_from_slice(&from.results);
+        self.shifts.copy_from_slice(&from.shifts);
+        self.frame.copy_from_slice(&from.frame);
+    }
+}
+
+/// A book and the buffers before it. The tableau test takes its sizes and the tableau alone.
+pub struct Job {
+    pub d: usize,
+    pub n: usize,
+    pub book: Vec<u8>,
+    pub before: Buffers,
+}
+
+impl Job {
+    pub fn new(book: &Book, tableau: Vec<u8>) -> Job {
+        let n = usize::from(book.qudits());
+        let before = Buffers {
+            tableau,
+            results: vec![99; cagvost::results_len(book.measurements())],
+            shifts: vec![99; cagvost::shifts_len(n)],
+            frame: vec![99; cagvost::frame_len(n)],
+        };
+        Job {
+            d: book.dimension().into(),
+            n,
+            book: book.to_bytes(),
+            before,
+        }
+    }
+}
+
+/// A number, its place and, from the frame run, the verdict.
+pub type Told = (usize, usize, usize);
+
+pub type Call = fn(&Job, &mut Buffers) -> Told;
+
+/// The same call by Cagvost, by the tuned Rust and by the plain Rust.
+pub type Columns = [Call; 3];
+
+pub const TEST: Columns = [
+    |job, b| numbers(cagvost::test_tableau(&b.tableau, job.d, job.n).map(|()| 0)),
+    |job, b| widen(tuned::test(&b.tableau, job.d, job.n)),
+    |job, b| widen(plain::test(&b.tableau, job.d, job.n)),
+];
+
+pub const DIRECT: Columns = [
+    |job, b| {
+        let told = cagvost::direct_run(&job.book, &mut b.tableau, &mut b.results);
+        numbers(told)
+    },
+    |job, b| {
+        let told = tuned::direct_run(&job.book, &mut b.tableau, &mut b.results);
+        widen(told)
+    },
+    |job, b| {
+        let told = plain::direct_run(&job.book, &mut b.tableau, &mut b.results);
+        widen(told)
+    },
+];
+
+pub const FRAME: Columns = [
+    |job, b| {
+        let told = cagvost::frame_run(
+            &job.book,
+            &mut b.tableau,
+            &mut b.results,
+            &mut b.shifts,
+            &mut b.frame,
+        );
+        match told {
+            Ok(run) => (0, run.measurements, verdict(run.verdict)),
+            Err(refusal) => (refusal.number(), refusal.place(), 0),
+        }
+    },
+    |job, b| {
+        tuned::frame_run(
+            &job.book,
+            &mut b.tableau,
+            &mut b.results,
+            &mut b.shifts,
+            &mut b.frame,
+        )
+    },
+    |job, b| {
+        plain::frame_run(
+            &job.book,
+            &mut b.tableau,
+            &mut b.results,
+            &mut b.shifts,
+            &mut b.frame,
+        )
+    },
+];
+
+fn verdict(verdict: Verdict) -> usize {
+    match verdict {
+        Verdict::Clean => 0,
+        Verdict::Shifted => 1,
+    }
+}
+
+fn numbers(told: Result<usize, Refusal>) -> Told {
+    match told {
+        Ok(count) => (0, count, 0),
+        Err(refusal) => (refusal.number(), refusal.place(), 0),
+    }
+}
+
+fn widen((number, place): plain::Told) -> Told {
+    (number, place, 0)
+}

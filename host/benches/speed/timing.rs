@@ -1,0 +1,108 @@
+//! Timing by turns, and the table.
+
+use crate::calls::{Buffers, Call, Columns, Job, Told};
+use std::hint::black_box;
+use std::time::{Duration, Instant};
+
+/// The plain column takes part in one round of so many: it is slow.
+const PLAIN_ONE_IN: usize = 5;
+
+const FEWEST_ROUNDS: usize = 10;
+const MOST_ROUNDS: usize = 1000;
+
+/// Least and median time of each column, in nanoseconds.
+#[derive(Clone, Copy)]
+pub struct Times {
+    pub least: [f64; 3],
+    pub median: [f64; 3],
+}
+
+/// Times the call in each column for about as long as the budget says.
+///
+/// The columns take turns, and the one that begins changes from round to round. Buffers are
+/// refilled before a call and compared after it, both off the clock.
+pub fn take(job: &Job, columns: &Columns, budget: Duration) -> Times {
+    let expected = compare(job, columns);
+    let mut buffers = job.before.clone();
+    let mut times: [Vec<Duration>; 3] = Default::default();
+    let begin = Instant::now();
+    for round in 0..MOST_ROUNDS {
+        if round >= FEWEST_ROUNDS && begin.elapsed() > budget {
+            break;
+        }
+        for i in (0..3).map(|i| (i + round) % 3) {
+            if i == 2 && round % PLAIN_ONE_IN != 0 {
+                continue;
+            }
+            buffers.refill(&job.before);
+            let start = Instant::now();
+            let told = columns[i](black_box(job), black_box(&mut buffers));
+            times[i].push(start.elapsed());
+            assert!((told, &buffers) == (expected.0, &expected.1), "column {i}");
+        }
+    }
+    summary(times)
+}
+
+/// What the columns agree in: the numbers and every byte. Each is called once.
+fn compare(job: &Job, columns: &Columns) -> (Told, Buffers) {
+    let [cagvost, tuned, plain] = columns.map(|call| leaves(job, call));
+    assert!(cagvost.0 == plain.0 && tuned.0 == plain.0, "numbers");
+    assert!(cagvost.1 == plain.1 && tuned.1 == plain.1, "bytes");
+    plain
+}
+
+/// What a call tells and leaves.
+pub fn leaves(job: &Job, call: Call) -> (Told, Buffers) {
+    let mut buffers = job.before.clone();
+    (call(job, &mut buffers), buffers)
+}
+
+fn summary(times: [Vec<Duration>; 3]) -> Times {
+    let sorted = times.map(|mut column| {
+        column.sort_unstable();
+        column
+    });
+    let nanoseconds = |time: Duration| time.as_nanos() as f64;
+    Times {
+        least: sorted.each_ref().map(|column| nanoseconds(column[0])),
+        median: sorted
+            .each_ref()
+            .map(|column| nanoseconds(column[column.len() / 2])),
+    }
+}
+
+/// What a printed time is for: a call, or one of the operations that a call has.
+#[derive(Clone, Copy)]
+pub enum Unit {
+    MicrosPerCall,
+    NanosPer(usize),
+}
+
+pub fn head(title: &str, unit: &str) {
+    println!("\n{title}");
+    println!(
+        "{unit:<37} {:^19} {:^19} {:^21} {:>13} {:>13}",
+        "Cagvost", "(b) tuned Rust", "(a) Rust with %", "Cagvost/(b)", "(a)/Cagvost"
+    );
+    let (wide, narrow) = ("    least    median", " least median");
+    println!("{:<37} {wide} {wide}   {wide} {narrow} {narrow}", "");
+}
+
+/// A line of the table.
+pub fn line(label: &str, unit: Unit, times: &Times) {
+    let scale = match unit {
+        Unit::MicrosPerCall => 1000.0,
+        Unit::NanosPer(count) => count as f64,
+    };
+    let [c, b, a] = times.least.map(|time| time / scale);
+    let [c_median, b_median, a_median] = times.median.map(|time| time / scale);
+    println!(
+        "{label:<37} {c:>9.1} {c_median:>9.1} {b:>9.1} {b_median:>9.1} {a:>11.1} {a_median:>9.1} \
+         {:>6.2} {:>6.2} {:>6.1} {:>6.1}",
+        c / b,
+        c_median / b_median,
+        a / c,
+        a_median / c_median
+    );
+}

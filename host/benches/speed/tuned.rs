@@ -1,0 +1,687 @@
+//! The fastest safe Rust that we could write for the same calls, on the same row-major bytes, with
+//! d and n known at run time only.
+//!
+//! What it has in common with the library: additions by an unsigned minimum, all multiples of the
+//! pivot made once, rows with power 0 passed over, half of the pairings. What it does beyond that:
+//! - *Even phases.* From entry to exit a row's last byte holds r − ½ Σ a·b. It simply adds under
+//!   products of rows that commute, so a sweep adds whole rows, and of the gates only the phase gate
+//!   moves it. This leans on the tableau's validity, which each run has tested.
+//! - Tables of rests and products for single bytes: what walks down a column of a row-major tableau
+//!   is not vectorised, and a look-up is cheaper there than arithmetic.
+//! - The rows that a free measurement changes are listed first, without a branch.
+//! - A certain product is one weighted sum of the stabilizers, reduced once.
+//! - Pairings are made of powers from −15 to 15, so that their sums fit 16 bits with a sign, two at
+//!   a time, and tested for divisibility without a division.
+
+/// A returned number and its place.
+type Told = (usize, usize);
+
+/// The largest number of powers in a row.
+const POWERS: usize = 128;
+
+// ---- Arithmetic modulo d
+
+fn add(d: u8, x: u8, y: u8) -> u8 {
+    let sum = x.wrapping_add(y);
+    sum.min(sum.wrapping_sub(d))
+}
+
+/// Arithmetic on single bytes by tables. Indices of eight and of five bits need no check.
+struct Modulo {
+    d: u8,
+    /// 65536/d.
+    reciprocal: u16,
+    /// The rest of each sum of four numbers below d, and of each difference of two, wrapped.
+    rests: [u8; 256],
+    /// Each product.
+    products: [[u8; 32]; 32],
+}
+
+impl Modulo {
+    fn new(d: u8) -> Modulo {
+        let mut rests = [0; 256];
+        for i in 0..=255 {
+            rests[usize::from(i)] = match i {
+                _ if i < d => i,
+                _ if i > 255 - d => i.wrapping_add(d),
+                _ => i % d,
+            };
+        }
+        let mut products = [[0; 32]; 32];
+        for x in 1..usize::from(d) {
+            let line = products[x - 1];
+            for (y, (product, before)) in (0..).zip(products[x].iter_mut().zip(line)) {
+                *product = add(d, before, y);
+            }
+        }
+        Modulo {
+            d,
+            reciprocal: (65536 / u32::from(d)) as u16,
+            rests,
+            products,
+        }
+    }
+
+    /// The rest of a sum or difference.
+    fn rest(&self, x: u8) -> u8 {
+        self.rests[usize::from(x)]
+    }
+
+    /// The rest of a sum of products. The quotient is found by a product and is at most 1 too low.
+    fn reduce(&self, x: u16) -> u8 {
+        let quotient = (u32::from(x) * u32::from(self.reciprocal)) >> 16;
+        let rest = (x - quotient as u16 * u16::from(self.d)) as u8;
+        rest.min(rest.wrapping_sub(self.d))
+    }
+
+    /// x times each number.
+    fn times(&self, x: u8) -> &[u8; 32] {
+        &self.products[usize::from(x & 31)]
+    }
+
+    fn inverse(&self, u: u8) -> u8 {
+        let line = &self.times(u)[..usize::from(self.d)];
+        line.iter().position(|&x| x == 1).expect("u is not 0") as u8
+    }
+}
+
+/// The entry of a line of products.
+fn look_up(line: &[u8; 32], x: u8) -> u8 {
+    line[usize::from(x & 31)]
+}
+
+// ---- Rows
+
+/// A row with its end padded, in blocks of one vector each.
+type Blocks = [[u8; 16]; 9];
+
+/// x + y, place by place.
+fn sum_blocks(d: u8, x: &Blocks, y: &Blocks) -> Blocks {
+    let mut z = *x;
+    for (z, y) in z.iter_mut().zip(y) {
+        for (z, &y) in z.iter_mut().zip(y) {
+            *z = add(d, *z, y);
+        }
+    }
+    z
+}
+
+/// The row gains the blocks, place by place.
+fn gain(d: u8, row: &mut [u8], blocks: &Blocks) {
+    let mut parts = row.chunks_exact_mut(16);
+    let mut blocks = blocks.iter();
+    for (part, block) in (&mut parts).zip(&mut blocks) {
+        for (x, &y) in part.iter_mut().zip(block) {
+            *x = add(d, *x, y);
+        }
+    }
+    let rest = blocks.next().into_iter().flatten();
+    for (x, &y) in parts.into_remainder().iter_mut().zip(rest) {
+        *x = add(d, *x, y);
+    }
+}
+
+/// Σ x·y.
+fn dot(x: &[u8], y: &[u8]) -> u16 {
+    let products = x.iter().zip(y);
+    products.map(|(&x, &y)| u16::from(x) * u16::from(y)).sum()
+}
+
+/// Adds x·Σ a·b to each row's phase.
+fn turn_phases(rows: &mut [u8], n: usize, x: u8, m: &Modulo) {
+    for row in rows.chunks_exact_mut(2 * n + 1) {
+        let own = m.reduce(dot(&row[..n], &row[n..2 * n]));
+        row[2 * n] = m.rest(row[2 * n].wrapping_add(look_up(m.times(x), own)));
+    }
+}
+
+/// Powers as the numbers nearest to 0 that leave the same rest: from −15 to 15.
+fn centre(centred: &mut [i16; POWERS], powers: &[u8], d: u8) {
+    for (centred, &x) in centred.iter_mut().zip(powers) {
+        *centred = i16::from(x) - if x > d / 2 { i16::from(d) } else { 0 };
+    }
+}
+
+/// A row as the left side of a pairing: Z powers, then X powers with their sign turned.
+fn twist(left: &mut [i16; POWERS], powers: &[i16; POWERS], n: usize) {
+    left[..n].copy_from_slice(&powers[n..2 * n]);
+    for (left, &a) in left[n..].iter_mut().zip(&powers[..n]) {
+        *left = -a;
+    }
+}
+
+/// The pairings of two left sides with a row, not reduced: at most 128·15·15.
+fn pairings([x, v]: [&[i16]; 2], y: &[i16]) -> [i16; 2] {
+    let (mut first, mut second) = (0, 0);
+    for ((&x, &v), &y) in x.iter().zip(v).zip(y) {
+        first += x * y;
+        second += v * y;
+    }
+    [first, second]
+}
+
+// ---- The tableau test
+
+/// Tests for divisibility by d with one product.
+#[derive(Clone, Copy)]
+struct Divisor {
+    /// The inverse of d modulo 2^32.
+    inverse: u32,
+    most: u32,
+    /// A multiple of d above every pairing.
+    lift: i32,
+}
+
+impl Divisor {
+    fn new(d: u8) -> Divisor {
+        let d = u32::from(d);
+        let mut inverse = d;
+        for _ in 0..4 {
+            inverse = inverse.wrapping_mul(2u32.wrapping_sub(d.wrapping_mul(inverse)));
+        }
+        Divisor {
+            inverse,
+            most: u32::MAX / d,
+            lift: d as i32 * 16384,
+        }
+    }
+
+    /// Whether the pairing is 1, for partners, or 0.
+    fn divides(self, pairing: i16, partners: bool) -> bool {
+        let lifted = i32::from(pairing) - i32::from(partners) + self.lift;
+        (lifted as u32).wrapping_mul(self.inverse) <= self.most
+    }
+}
+
+fn is_valid(d: u8, n: usize, tableau: &[u8]) -> bool {
+    if tableau.iter().fold(0, |most, &x| x.max(most)) >= d {
+        return false;
+    }
+    let divisor = Divisor::new(d);
+    let mut rows = [[0; POWERS]; POWERS];
+    for (centred, row) in rows.iter_mut().zip(tableau.chunks_exact(2 * n + 1)) {
+        centre(centred, &row[..2 * n], d);
+    }
+    let mut lefts = [[0; POWERS]; 2];
+    (0..n).all(|g| {
+        for (left, row) in lefts.iter_mut().zip(&rows[2 * g..]) {
+            twist(left, row, n);
+        }
+        let lefts = lefts.each_ref().map(|left| &left[..2 * n]);
+        let earlier = rows[..2 * g + 1].iter().enumerate();
+        earlier.fold(true, |good, (j, other)| {
+            let [first, second] = pairings(lefts, &other[..2 * n]);
+            good & divisor.divides(first, 2 * g == n + j)
+                & divisor.divides(second, 2 * g + 1 == n + j)
+        })
+    })
+}
+
+// ---- Gates and errors on every row
+
+fn fourier(rows: &mut [u8], n: usize, q: usize, m: &Modulo) {
+    let (w, z) = (2 * n + 1, n + q);
+    assert!(q < w && z < w);
+    for row in rows.chunks_exact_mut(w) {
+        let (a, b) = (row[q], row[z]);
+        row[q] = m.rest(b.wrapping_neg());
+        row[z] = a;
+    }
+}
+
+fn phase_gate(rows: &mut [u8], n: usize, q: usize, m: &Modulo) {
+    let (w, z) = (2 * n + 1, n + q);
+    assert!(q < w && z < w);
+    let halves = m.times(m.d / 2);
+    for row in rows.chunks_exact_mut(w) {
+        let (a, b, s) = (row[q], row[z], row[2 * n]);
+        row[z] = m.rest(b.wrapping_add(a));
+        row[2 * n] = m.rest(s.wrapping_add(look_up(halves, a)));
+    }
+}
+
+fn sum(rows: &mut [u8], n: usize, (c, t): (usize, usize), m: &Modulo) {
+    let (w, zc, zt) = (2 * n + 1, n + c, n + t);
+    assert!(c < w && t < w && zc < w && zt < w);
+    for row in rows.chunks_exact_mut(w) {
+        let (a, b) = (row[t].wrapping_add(row[c]), row[zc].wrapping_sub(row[zt]));
+        row[t] = m.rest(a);
+        row[zc] = m.rest(b);
+    }
+}
+
+fn cz(rows: &mut [u8], n: usize, (c, t): (usize, usize), m: &Modulo) {
+    let (w, zc, zt) = (2 * n + 1, n + c, n + t);
+    assert!(c < w && t < w && zc < w && zt < w);
+    for row in rows.chunks_exact_mut(w) {
+        let (b, z) = (row[zc].wrapping_add(row[t]), row[zt].wrapping_add(row[c]));
+        row[zc] = m.rest(b);
+        row[zt] = m.rest(z);
+    }
+}
+
+fn swap(rows: &mut [u8], n: usize, (c, t): (usize, usize)) {
+    let (w, zc, zt) = (2 * n + 1, n + c, n + t);
+    assert!(c < w && t < w && zc < w && zt < w);
+    for row in rows.chunks_exact_mut(w) {
+        let (a, x, b, z) = (row[c], row[t], row[zc], row[zt]);
+        row[c] = x;
+        row[t] = a;
+        row[zc] = z;
+        row[zt] = b;
+    }
+}
+
+fn multiplier(rows: &mut [u8], n: usize, q: usize, u: u8, m: &Modulo) {
+    let (w, z) = (2 * n + 1, n + q);
+    assert!(q < w && z < w);
+    let (by, back) = (m.times(u), m.times(m.inverse(u)));
+    for row in rows.chunks_exact_mut(w) {
+        let (a, b) = (look_up(by, row[q]), look_up(back, row[z]));
+        row[q] = a;
+        row[z] = b;
+    }
+}
+
+/// The gate on rows with even phases, or on a frame that is laid out as a row.
+fn gate(rows: &mut [u8], n: usize, entry: &[u8], m: &Modulo) {
+    let (q, t) = (usize::from(entry[1]), usize::from(entry[2]));
+    match entry[0] {
+        0 => fourier(rows, n, q, m),
+        1 => phase_gate(rows, n, q, m),
+        2 => sum(rows, n, (q, t), m),
+        3 => cz(rows, n, (q, t), m),
+        4 => swap(rows, n, (q, t)),
+        _ => multiplier(rows, n, q, entry[3], m),
+    }
+}
+
+/// An error on every row.
+fn strike(rows: &mut [u8], n: usize, error: &[u8], m: &Modulo) {
+    let (w, q) = (2 * n + 1, usize::from(error[2]));
+    let z = n + q;
+    assert!(q < w && z < w);
+    let (plus, minus) = (m.times(error[4]), m.times(m.rest(error[3].wrapping_neg())));
+    for row in rows.chunks_exact_mut(w) {
+        let gained = look_up(plus, row[q]).wrapping_add(look_up(minus, row[z]));
+        row[2 * n] = m.rest(row[2 * n].wrapping_add(gained));
+    }
+}
+
+// ---- Measurements
+
+/// Room for the powers of a pivot.
+#[repr(align(64))]
+struct Powers([Blocks; 32]);
+
+impl Powers {
+    fn new() -> Powers {
+        Powers([[[0; 16]; 9]; 32])
+    }
+
+    /// Makes all powers of a row with an even phase.
+    fn make(&mut self, d: u8, row: &[u8]) {
+        self.0[1].as_flattened_mut()[..row.len()].copy_from_slice(row);
+        for h in 2..usize::from(d) {
+            self.0[h] = sum_blocks(d, &self.0[h - 1], &self.0[1]);
+        }
+    }
+
+    fn power(&self, h: u8) -> &Blocks {
+        &self.0[usize::from(h & 31)]
+    }
+}
+
+/// A measurement: the outcome and the mark, or None for refusal 10.
+fn measure(
+    rows: &mut [u8],
+    n: usize,
+    (q, choice): (usize, u8),
+    m: &Modulo,
+    powers: &mut Powers,
+) -> Option<[u8; 2]> {
+    let w = 2 * n + 1;
+    let mut stabilizers = rows[n * w..].chunks_exact(w);
+    let Some(k) = stabilizers.position(|row| row[q] != 0) else {
+        return Some([certain(rows, n, q, m)?, 0]);
+    };
+    collapse(rows, n, (q, k, choice), m, powers);
+    Some([choice, 1])
+}
+
+/// The outcome that the weighted product of the stabilizers fixes, if it is Z on q.
+fn certain(rows: &[u8], n: usize, q: usize, m: &Modulo) -> Option<u8> {
+    let w = 2 * n + 1;
+    let (destabilizers, stabilizers) = rows.split_at(n * w);
+    let mut sums = [0; POWERS + 1];
+    for &(i, h) in changing(destabilizers, w, q, m.times(1)).as_slice() {
+        let stabilizer = &stabilizers[usize::from(i) * w..];
+        for (sum, &x) in sums[..w].iter_mut().zip(stabilizer) {
+            *sum += u16::from(h) * u16::from(x);
+        }
+    }
+    sums[n + q] += u16::from(m.d) - 1;
+    let others = sums[..2 * n].iter().fold(0, |or, &x| or | m.reduce(x));
+    (others == 0).then(|| m.rest(m.reduce(sums[2 * n]).wrapping_neg()))
+}
+
+/// The rows whose power on q is not 0, each with its exponent.
+struct Changing {
+    list: [(u8, u8); POWERS],
+    count: usize,
+}
+
+impl Changing {
+    fn as_slice(&self) -> &[(u8, u8)] {
+        &self.list[..self.count]
+    }
+}
+
+/// Finds them without a branch, which would often be foreseen wrongly for small d.
+fn changing(rows: &[u8], w: usize, q: usize, exponents: &[u8; 32]) -> Changing {
+    let mut list = [(0, 0); POWERS];
+    let mut count = 0;
+    for (i, row) in (0..).zip(rows.chunks_exact(w)) {
+        let h = look_up(exponents, row[q]);
+        list[count % POWERS] = (i, h);
+        count += usize::from(h != 0);
+    }
+    Changing { list, count }
+}
+
+/// A free measurement of q by stabilizer k.
+fn collapse(
+    rows: &mut [u8],
+    n: usize,
+    (q, k, choice): (usize, usize, u8),
+    m: &Modulo,
+    powers: &mut Powers,
+) {
+    let (w, d) = (2 * n + 1, m.d);
+    let (pivot, destabilizer) = ((n + k) * w, k * w);
+    let inverse = m.inverse(rows[pivot + q]);
+    powers.make(d, &rows[pivot..pivot + w]);
+    for &(i, h) in changing(rows, w, q, m.times(d - inverse)).as_slice() {
+        let at = usize::from(i) * w;
+        gain(d, &mut rows[at..at + w], powers.power(h));
+    }
+    let first = powers.power(inverse).as_flattened();
+    rows[destabilizer..destabilizer + w].copy_from_slice(&first[..w]);
+    let measured = &mut rows[pivot..pivot + w];
+    measured.fill(0);
+    measured[n + q] = 1;
+    measured[2 * n] = m.rest(choice.wrapping_neg());
+}
+
+// ---- The book
+
+struct Book<'a> {
+    d: u8,
+    n: usize,
+    operations: &'a [u8],
+    errors: &'a [u8],
+    choices: &'a [u8],
+}
+
+/// Refusals 2 and 3.
+fn check_sizes(d: usize, n: usize) -> Result<(), Told> {
+    if ![3, 5, 7, 11, 13, 17, 19, 23, 29, 31].contains(&d) {
+        return Err((2, 0));
+    }
+    if n == 0 || n > 64 {
+        return Err((3, 0));
+    }
+    Ok(())
+}
+
+fn two_bytes(bytes: &[u8], i: usize) -> usize {
+    usize::from(u16::from_le_bytes([bytes[i], bytes[i + 1]]))
+}
+
+/// The accepted book, or refusal 1 to 7.
+fn read(book: &[u8]) -> Result<Book<'_>, Told> {
+    if book.len() < 22 || book[0] != 81 || book[3] != 3 {
+        return Err((1, 0));
+    }
+    let (d, n) = (book[1], usize::from(book[2]));
+    check_sizes(d.into(), n)?;
+    let [operations, errors, choices] = bodies(book)?;
+    check_operations(d, n, operations)?;
+    check_errors(d, n, operations.len() / 4, errors)?;
+    check_choices(d, operations, choices)?;
+    Ok(Book {
+        d,
+        n,
+        operations,
+        errors,
+        choices,
+    })
+}
+
+fn bodies(book: &[u8]) -> Result<[&[u8]; 3], Told> {
+    let (sizes, limits) = ([4, 5, 1], [4096, 2048, 4096]);
+    let mut ends = [22; 4];
+    for (i, entry) in book[4..22].chunks_exact(6).enumerate() {
+        let (offset, length) = (two_bytes(entry, 2), two_bytes(entry, 4));
+        let named = usize::from(entry[0]) == i + 1 && entry[1] == 0 && offset == ends[i];
+        if !named || length % sizes[i] != 0 || length / sizes[i] > limits[i] {
+            return Err((4, i));
+        }
+        ends[i + 1] = offset + length;
+    }
+    if ends[3] != book.len() {
+        return Err((4, 3));
+    }
+    Ok([0, 1, 2].map(|i| &book[ends[i]..ends[i + 1]]))
+}
+
+fn is_operation(d: u8, n: usize, entry: &[u8]) -> bool {
+    let (first, second) = (usize::from(entry[1]), usize::from(entry[2]));
+    let rest = match entry[0] {
+        0 | 1 | 6 => second == 0 && entry[3] == 0,
+        2..=4 => second < n && second != first && entry[3] == 0,
+        5 => second == 0 && entry[3] != 0 && entry[3] < d,
+        _ => false,
+    };
+    first < n && rest
+}
+
+fn check_operations(d: u8, n: usize, body: &[u8]) -> Result<(), Told> {
+    let mut entries = body.chunks_exact(4);
+    match entries.position(|entry| !is_operation(d, n, entry)) {
+        Some(index) => Err((5, index)),
+        None => Ok(()),
+    }
+}
+
+fn check_errors(d: u8, n: usize, operations: usize, body: &[u8]) -> Result<(), Told> {
+    let mut lowest = 0;
+    for (index, entry) in body.chunks_exact(5).enumerate() {
+        let place = two_bytes(entry, 0);
+        let placed = lowest <= place && place <= operations;
+        if !placed || usize::from(entry[2]) >= n || entry[3] >= d || entry[4] >= d {
+            return Err((6, index));
+        }
+        lowest = place;
+    }
+    Ok(())
+}
+
+fn check_choices(d: u8, operations: &[u8], choices: &[u8]) -> Result<(), Told> {
+    let entries = operations.chunks_exact(4);
+    let measurements = entries.filter(|entry| entry[0] == 6).count();
+    if choices.len() != measurements {
+        return Err((7, choices.len().min(measurements)));
+    }
+    match choices.iter().position(|&choice| choice >= d) {
+        Some(index) => Err((7, index)),
+        None => Ok(()),
+    }
+}
+
+/// Takes the next error off the body, if its place is k.
+fn take_error<'a>(errors: &mut &'a [u8], k: usize) -> Option<&'a [u8]> {
+    let (error, rest) = errors.split_at_checked(5)?;
+    if two_bytes(error, 0) != k {
+        return None;
+    }
+    *errors = rest;
+    Some(error)
+}
+
+// ---- Calls
+
+/// The bytes of a tableau of n qudits.
+fn tableau_len(n: usize) -> usize {
+    2 * n * (2 * n + 1)
+}
+
+pub fn test(tableau: &[u8], d: usize, n: usize) -> Told {
+    if let Err(told) = check_sizes(d, n) {
+        return told;
+    }
+    match tableau.get(..tableau_len(n)) {
+        None => (8, 0),
+        Some(rows) if !is_valid(d as u8, n, rows) => (9, 0),
+        Some(_) => (0, 0),
+    }
+}
+
+/// The book and the rows to run it on, or a refusal.
+fn start<'a, 'b>(
+    book: &'a [u8],
+    tableau: &'b mut [u8],
+    results: &[u8],
+) -> Result<(Book<'a>, &'b mut [u8]), Told> {
+    let book = read(book)?;
+    let rows = tableau.get_mut(..tableau_len(book.n)).ok_or((8, 0))?;
+    if results.len() < 2 * book.choices.len() {
+        return Err((8, 0));
+    }
+    Ok((book, rows))
+}
+
+/// The direct run: each error strikes every row at its place.
+pub fn direct_run(book: &[u8], tableau: &mut [u8], results: &mut [u8]) -> Told {
+    let (book, rows) = match start(book, tableau, results) {
+        Ok(started) => started,
+        Err(told) => return told,
+    };
+    if !is_valid(book.d, book.n, rows) {
+        return (9, 0);
+    }
+    let modulo = Modulo::new(book.d);
+    turn_phases(rows, book.n, book.d / 2, &modulo);
+    let told = strike_along(&book, rows, results, &modulo);
+    turn_phases(rows, book.n, book.d / 2 + 1, &modulo);
+    told
+}
+
+fn strike_along(book: &Book, rows: &mut [u8], results: &mut [u8], modulo: &Modulo) -> Told {
+    let (n, mut errors, mut done) = (book.n, book.errors, 0);
+    let mut powers = Powers::new();
+    for (k, entry) in book.operations.chunks_exact(4).enumerate() {
+        while let Some(error) = take_error(&mut errors, k) {
+            strike(rows, n, error, modulo);
+        }
+        if entry[0] != 6 {
+            gate(rows, n, entry, modulo);
+            continue;
+        }
+        let measured = (entry[1].into(), book.choices[done]);
+        let Some(result) = measure(rows, n, measured, modulo, &mut powers) else {
+            return (10, done);
+        };
+        results[2 * done..2 * done + 2].copy_from_slice(&result);
+        done += 1;
+    }
+    for error in errors.chunks_exact(5) {
+        strike(rows, n, error, modulo);
+    }
+    (0, done)
+}
+
+/// The frame run: errors change the frame alone. The third number is the verdict.
+pub fn frame_run(
+    book: &[u8],
+    tableau: &mut [u8],
+    results: &mut [u8],
+    shifts: &mut [u8],
+    frame: &mut [u8],
+) -> (usize, usize, usize) {
+    let (book, rows) = match start(book, tableau, results) {
+        Ok(started) => started,
+        Err((number, place)) => return (number, place, 0),
+    };
+    let (d, n) = (book.d, book.n);
+    let (Some(shifts), Some(frame)) = (shifts.get_mut(..2 * n), frame.get_mut(..2 * n)) else {
+        return (8, 0, 0);
+    };
+    if !is_valid(d, n, rows) {
+        return (9, 0, 0);
+    }
+    let modulo = Modulo::new(d);
+    let mut carried = [0; POWERS + 1];
+    turn_phases(rows, n, d / 2, &modulo);
+    let (number, place) = carry_along(&book, rows, results, &mut carried[..2 * n + 1], &modulo);
+    turn_phases(rows, n, d / 2 + 1, &modulo);
+    if number != 0 {
+        return (number, place, 0);
+    }
+    frame.copy_from_slice(&carried[..2 * n]);
+    let verdict = shift(rows, n, &carried, shifts, &modulo);
+    (0, place, verdict)
+}
+
+fn carry_along(
+    book: &Book,
+    rows: &mut [u8],
+    results: &mut [u8],
+    frame: &mut [u8],
+    modulo: &Modulo,
+) -> Told {
+    let (n, mut errors, mut done) = (book.n, book.errors, 0);
+    let mut powers = Powers::new();
+    for (k, entry) in book.operations.chunks_exact(4).enumerate() {
+        while let Some(error) = take_error(&mut errors, k) {
+            carry(frame, n, error, modulo.d);
+        }
+        if entry[0] != 6 {
+            gate(rows, n, entry, modulo);
+            gate(frame, n, entry, modulo);
+            continue;
+        }
+        let q = usize::from(entry[1]);
+        let measured = (q, book.choices[done]);
+        let Some([clean, mark]) = measure(rows, n, measured, modulo, &mut powers) else {
+            return (10, done);
+        };
+        let reported = add(modulo.d, clean, frame[q]);
+        results[2 * done..2 * done + 2].copy_from_slice(&[reported, mark]);
+        done += 1;
+    }
+    for error in errors.chunks_exact(5) {
+        carry(frame, n, error, modulo.d);
+    }
+    (0, done)
+}
+
+/// The error joins the frame.
+fn carry(frame: &mut [u8], n: usize, error: &[u8], d: u8) {
+    let q = usize::from(error[2]);
+    frame[q] = add(d, frame[q], error[3]);
+    frame[n + q] = add(d, frame[n + q], error[4]);
+}
+
+/// Shifts each row's phase by its pairing with the frame. The verdict.
+fn shift(rows: &mut [u8], n: usize, frame: &[u8], shifts: &mut [u8], m: &Modulo) -> usize {
+    let mut any = 0;
+    for (row, shift) in rows.chunks_exact_mut(2 * n + 1).zip(shifts) {
+        let plus = m.reduce(dot(&frame[n..2 * n], &row[..n]));
+        let minus = m.reduce(dot(&frame[..n], &row[n..2 * n]));
+        *shift = m.rest(plus.wrapping_sub(minus));
+        row[2 * n] = m.rest(row[2 * n].wrapping_add(*shift));
+        any |= *shift;
+    }
+    usize::from(any != 0)
+}
