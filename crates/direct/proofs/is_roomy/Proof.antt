@@ -1,13 +1,10 @@
 -- `direct::is_roomy` meets its contract.
 -- Assumes nothing.
-use mathlib.Core.Path.{_≡_, sym, _∙_}
-use Prim.Native.Nat.{ℕ, _+_, _*_, _/_, _≤_}
+use Prim.Native.Nat.{_+_, _*_, _≤_}
 use native.Mathlib.Nat.{mul-le-mul}
-use native.Mathlib.Decide.{decLe}
 use native.Mathlib.Omega.{arith}
-use lib.Dec.{leb}
 use borrow.Author.Needs.{needs}
-use borrow.Author.Tests.{le-leb, lt-leb}
+use Rattle.measure.proofs.Room.{halves}
 use Rattle.direct.proofs.is_roomy.Statement.{statement}
 use Rattle.direct.proofs.is_roomy.Tie as tie
 
@@ -26,13 +23,6 @@ mul-result-3 c =
     let a : 2 * n ≤ 128 = omega arith in
     let b : 2 * n + 1 ≤ 129 = omega arith in
     omega (arith, mul-le-mul a b)
-
-halves : (a b : ℕ) → leb a (b / 2) ≡ leb (2 * a) b
-halves a b = by (decLe a (b / 2))
-  where
-    by : Dec (a ≤ b / 2) → leb a (b / 2) ≡ leb (2 * a) b
-    by (yes l) = le-leb a (b / 2) l ∙ sym (le-leb (2 * a) b (omega arith))
-    by (no l) = lt-leb a (b / 2) (omega arith) ∙ sym (lt-leb (2 * a) b (omega arith))
 
 returns : tie.Need-returns
 returns c = rw halves

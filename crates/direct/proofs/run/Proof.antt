@@ -6,16 +6,23 @@ use native.Mathlib.Omega.{arith}
 use denote.Ref.{now}
 use lib.ListN.{length}
 use borrow.Author.Needs.{needs}
+use Rattle.tableau.specs.Tableau.{Tableau}
 use Rattle.book.specs.Decoded.{operationsOf, errorsOf}
 use Rattle.book.proofs.Lists.{op-count}
-use Rattle.direct.proofs.Steps.{Going, going-start, going-on, going-stops, going-ends}
+use Rattle.run.specs.Direct.{directStep}
+use Rattle.measure.proofs.Going.{Going, going-start, going-on, going-stops, going-ends}
+use Rattle.direct.proofs.Steps.{run-refused, run-done}
 use Rattle.direct.proofs.run.Statement.{statement}
 use Rattle.direct.proofs.run.Tie as tie
 
 abbrev Inv-loop : tie.InvT-loop
 Inv-loop t₀ results₀ ops errors choices d n count at₀ k₀ t results at k =
-    Going d n (operationsOf d n ops) (errorsOf errors) choices (record { rows = t₀; results = results₀ }) k at t results × (k ≤ count)
+    Going (operationsOf d n ops) (errorsOf errors) (directStep d n (operationsOf d n ops) (errorsOf errors) choices)
+    (record { rows = t₀; results = results₀ }) k at (record { rows = t; results = results })
+    × (k ≤ count)
+    × Tableau d n t
     × (length t ≡ length t₀)
+    × (length results ≡ length results₀)
 
 abbrev μ-loop : tie.MeasureT-loop
 μ-loop t₀ results₀ ops errors choices d n count at₀ k₀ t results at k = count - k
@@ -23,14 +30,14 @@ abbrev μ-loop : tie.MeasureT-loop
 loop-holds : tie.Need-loop-holds Inv-loop μ-loop
 loop-holds c =
     let s = c .before .before .before .before .before in
-    (going-start _ _ _ _ _ _ (s .pre .5), omega arith, refl)
+    (going-start _ _ _ _, omega arith, s .pre .5, refl, refl)
 
 advance-requires : tie.Need-advance-requires Inv-loop μ-loop
 advance-requires c κs =
     let l = c .before .before .before in
     let s = l .before .before .before .before .before .before in
-    let g = l .loop .inv .0 in
-    (c .before .before .loop-test .taken, s .pre .0, s .pre .1, s .pre .2, s .pre .3, g .reached, g .count, omega (arith, g .room), g .rows)
+    let i = l .loop .inv in
+    (c .before .before .loop-test .taken, s .pre .0, s .pre .1, s .pre .2, s .pre .3, i .0 .reached, i .0 .count, omega (arith, i .4), i .2)
 
 enum-known-advanced : tie.Need-enum-known-advanced Inv-loop μ-loop
 enum-known-advanced c = search needs
@@ -50,10 +57,10 @@ returns c =
     let l = v .before .before .before .before in
     let a = l .before .before .before .before .before .before .args in
     let ops = operationsOf (a .d) (a .n) (now (a .ops)) in
-    let answer = c .before .advanced2 .given in
     let in-list : l .loop .k < length ops = omega (arith, op-count (a .d) (a .n) (now (a .ops))) in
-    going-stops (a .d) (a .n) ops (errorsOf (now (a .errors))) (now (a .choices)) (l .loop .inv .0) (answer .0 .0) (answer .0 .1 .0) in-list
-    (rw (answer .1) at (v .advance .ensures))
+    let after = rw (c .before .advanced2 .given .1) at (v .advance .ensures) in
+    run-refused (a .d) (a .n) ops (errorsOf (now (a .errors))) (now (a .choices)) _ (after .1)
+    (going-stops _ _ _ _ (l .loop .inv .0) in-list (after .0))
 
 add-k : tie.Need-add-k Inv-loop μ-loop
 add-k c = search needs
@@ -65,20 +72,16 @@ loop-again : tie.Need-loop-again Inv-loop μ-loop
 loop-again c =
     let v = c .before .before .before .before .before .before .before in
     let l = v .before .before .before .before in
-    let a = l .before .before .before .before .before .before .args in
-    let ops = operationsOf (a .d) (a .n) (now (a .ops)) in
-    let answer = c .before .advanced .given in (
-      going-on (a .d) (a .n) ops (errorsOf (now (a .errors))) (now (a .choices)) (l .loop .inv .0) (answer .0 .0) (rw (answer .1) at (v .advance .ensures)),
-      omega arith,
-      omega arith,
-    )
+    let answer = c .before .advanced .given in
+    let after = rw (answer .1) at (v .advance .ensures) in
+    (going-on _ _ _ _ (l .loop .inv .0) (answer .0 .0) (after .0) (after .1), omega arith, after .2, omega arith, omega arith)
 
 strike-requires : tie.Need-strike-requires Inv-loop μ-loop
 strike-requires c κs =
     let l = c .before .before in
     let s = l .before .before .before .before .before .before in
-    let g = l .loop .inv .0 in
-    (s .pre .0, s .pre .1, g .rows, g .reached, s .pre .3 .strikes, s .pre .3 .in-order)
+    let i = l .loop .inv in
+    (s .pre .0, s .pre .1, i .2, i .0 .reached, s .pre .3 .strikes, s .pre .3 .in-order)
 
 same-length-3 : tie.Need-same-length-3 Inv-loop μ-loop
 same-length-3 c = search needs
@@ -92,8 +95,9 @@ returns-2 c =
     let l = k .before .before .before in
     let a = l .before .before .before .before .before .before .args in
     let ops = operationsOf (a .d) (a .n) (now (a .ops)) in
-    going-ends (a .d) (a .n) ops (errorsOf (now (a .errors))) (now (a .choices)) (l .loop .inv .0) (omega (arith, op-count (a .d) (a .n) (now (a .ops))))
-    (omega (arith, op-count (a .d) (a .n) (now (a .ops)))) (k .strike .ensures .0)
+    let all : length ops ≡ l .loop .k = omega (arith, op-count (a .d) (a .n) (now (a .ops))) in
+    let g = going-ends _ _ _ _ (l .loop .inv .0) (omega arith) (omega arith) in
+    run-done (a .d) (a .n) ops (errorsOf (now (a .errors))) (now (a .choices)) _ (g .count) (g .so-far) (rw all (k .strike .ensures .0))
 
 pub run-spec : {M : Type 1} → statement M
 run-spec =

@@ -51,7 +51,7 @@ collapse-requires c κs =
 add-requires : tie.Need-add-requires
 add-requires c κs =
     let s = c .before .before .before .before .before .before .before .before .before .before .before .before .before .before .before in
-    (dimension (s .args .d) (s .pre .0) .high, s .pre .3, s .pre .4)
+    (dimension (s .args .d) (s .pre .0) .high, omega arith, omega arith)
 
 note-requires : tie.Need-note-requires
 note-requires c κs = search needs
