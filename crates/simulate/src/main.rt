@@ -30,7 +30,7 @@ fn measurement(j: usize, q: usize, results: &[u8])
     io::write_all(1, b"\n");
 }
 
-// A line for each operation of code 6.
+// A line for each operation of code 6. An accepted book's measurements all have room; the test spares a proof of it.
 fn measurements(ops: &[u8], results: &[u8]) {
     let count = ops.len() / 4;
     let room = results.len() / 2;
@@ -85,6 +85,7 @@ fn list(book: &[u8], numbers: Numbers) {
     write(b" errors ", numbers.errors);
     io::write_all(1, b"\n");
     measurements(book::body(book, 1), &results);
+    // always so for an accepted book; the test spares a proof of it
     if n <= 64 {
         shift_line(&shifts, n);
     }
