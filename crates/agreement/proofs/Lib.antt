@@ -1,4 +1,3 @@
 -- Demand 3 for whole books.
-pub mod Book
 pub mod Second
 pub mod Demand3

@@ -14,7 +14,7 @@ use Rattle.run.specs.Raised.{raised}
 use Rattle.run.proofs.Shifts.{raised-length}
 use Rattle.carrying.proofs.Books.{with-raised}
 use Rattle.agreement.specs.Agreement.{raisedBook, SecondAccepted}
-use Rattle.agreement.proofs.Book.{Rechosen, rechosen}
+use Rattle.book.proofs.Rechosen.{Rechosen, rechosen}
 
 module _ {d n operations errors choices : ℕ} (s : List ℕ) (e : readBook s ≡ accepted d n operations errors choices) where
   abbrev raisedIn : List ℕ

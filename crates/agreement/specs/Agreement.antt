@@ -12,7 +12,7 @@ use Rattle.book.specs.Decoded.{opsIn, errorsIn, choicesIn, measurementsIn}
 use Rattle.run.specs.Frame.{noFrame}
 use Rattle.run.specs.Raised.{raised}
 use Rattle.direct.specs.DirectBook.{Left, directBook}
-use Rattle.framed.specs.FrameBook.{Buffers, FrameLeft, frameBook}
+use Rattle.framed.specs.FrameBook.{FrameLeft, frameBook}
 
 -- The second book: the choice of each measurement is raised, modulo d, by the X power which the frame of the first book's errors
 -- has on the measured qudit just before that measurement. The choices are the last body; no byte before them differs.

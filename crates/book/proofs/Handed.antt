@@ -1,21 +1,20 @@
 -- What an accepted book hands to a run.
 -- Assumes nothing.
 use mathlib.Core.Path.{_≡_, sym, ap, _∙_}
-use mathlib.Core.Bool.{true, and-eq-true-iff}
+use mathlib.Core.Bool.{true}
 use mathlib.Core.List.{List}
-use Prim.Native.Nat.{ℕ, _/_, _<_, _≤_}
-use lib.Dec.{leb}
+use Prim.Native.Nat.{ℕ, _≤_}
 use lib.ListN.{length}
-use borrow.Author.Tests.{leb-true}
 use Rattle.modular.specs.Dimension.{listed}
+use Rattle.tableau.proofs.Sized.{sized-most}
 use Rattle.circuit.specs.Circuit.{measured, Accepted}
 use Rattle.body.specs.declared.Numbers.{Numbers}
 use Rattle.body.specs.declared.Reading.{Reading}
 use Rattle.body.specs.declared.Reading.the-variants.{Accepted as Taken}
-use Rattle.body.specs.Body.{goodOperation, accepted, told}
-use Rattle.body.proofs.Sound.{no-refusal, all-sound, each-operation}
-use Rattle.book.specs.Book.{dimensionOf, quditsOf, partOf, readBook, bodyOf}
-use Rattle.book.specs.Decoded.{operationsOf, errorsOf, measurementsIn}
+use Rattle.body.specs.Body.{accepted, told}
+use Rattle.body.proofs.Sound.{no-refusal}
+use Rattle.book.specs.Book.{partOf, readBook, bodyOf}
+use Rattle.book.specs.Decoded.{operationsOf, errorsOf, measurementsIn, Bodies}
 use Rattle.book.proofs.Contents.{all-passed, Inside, inside, by-kind}
 use Rattle.book.proofs.Meaning.{accepted-means}
 
@@ -29,7 +28,6 @@ pub record Handed (s : List ℕ) (d n choices : ℕ) : Type 0 where
   pub first : bodyOf s 1 ≡ partOf s 4
   pub second : bodyOf s 2 ≡ partOf s 10
   pub third : bodyOf s 3 ≡ partOf s 16
-  pub good : (k : ℕ) → k < length (partOf s 4) / 4 → goodOperation d n (partOf s 4) k ≡ true
   pub lists : Accepted d n (operationsOf d n (partOf s 4)) (errorsOf (partOf s 10)) (partOf s 16)
   pub measurements : measurementsIn s d n ≡ choices
   pub room : length (partOf s 16) ≡ choices
@@ -40,7 +38,6 @@ handed s {reading} {b} e f =
     let m = accepted-means s (b .d) (b .n) (b .operations) (b .errors) (b .choices) reads in
     let none = no-refusal (b .d) (b .n) (b .operations) (b .errors) (b .choices) in
     let p = all-passed s none reads in
-    let sound = all-sound (dimensionOf s) (quditsOf s) (partOf s 4) (partOf s 10) (partOf s 16) none (p .bodies) in
     let b1 = by-kind s 1 reads in
     let b2 = by-kind s 2 reads in
     let b3 = by-kind s 3 reads in
@@ -49,13 +46,18 @@ handed s {reading} {b} e f =
       errors = b .errors;
       reads = reads;
       dimension = m .dimension-listed;
-      qudits = leb-true (b .n) 64 (and-eq-true-iff (leb 1 (b .n)) (leb (b .n) 64) .0 (m .qudits-sized) .1);
+      qudits = sized-most (b .n) (m .qudits-sized);
       bodies = inside s (p .head) (p .contents);
       first = b1;
       second = b2;
       third = b3;
-      good = λ k h. rw (m .dimension, m .qudits) at (each-operation sound k h);
       lists = rw (← b1, ← b2, ← b3) (m .lists);
       measurements = ap (measured (operationsOf (b .d) (b .n) (bodyOf s 1))) (m .operation-count) ∙ m .measurement-count;
       room = ap length (sym b3) ∙ m .choice-count;
     }
+
+-- the bodies as a run is handed them
+pub bodies-of : (s : List ℕ) {d n choices : ℕ} {ops errors cs : List ℕ} → Handed s d n choices → ops ≡ partOf s 4 → errors ≡ partOf s 10
+    → cs ≡ partOf s 16
+    → Bodies d n ops errors cs
+bodies-of s g a b c = rw (a, b, c) (record { dimension = g .dimension; qudits = g .qudits; lists = g .lists })

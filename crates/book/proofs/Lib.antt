@@ -1,6 +1,7 @@
--- What the proofs of several functions use; what an accepted book means, and hands to a run; worked cases.
+-- What the proofs of several functions use; what an accepted book means, and hands to a run; books with other choices; worked cases.
 pub mod Contents
 pub mod Lists
 pub mod Meaning
 pub mod Handed
+pub mod Rechosen
 pub mod Cases

@@ -1,18 +1,19 @@
 -- The lists that bodies stand for, entry by entry.
 -- Assumes nothing.
-use mathlib.Core.Path.{_≡_, sym, ap, _∙_}
-use mathlib.Core.Bool.{true, false≢true}
+use mathlib.Core.Path.{_≡_, refl, sym, ap, _∙_}
+use mathlib.Core.Bool.{true}
 use mathlib.Core.List.{List}
 use Prim.Native.Nat.{ℕ, _/_, _<_}
 use lib.ListN.{length}
 use Rattle.row.proofs.Fill.{tab-length, tab-get}
 use Rattle.operation.specs.declared.Operation.the-variants.{Measure}
 use Rattle.operation.specs.declared.Step.{Step}
+use Rattle.operation.specs.Operation.{allowed}
+use Rattle.operation.proofs.Operands.{distinct-facts}
 use Rattle.circuit.specs.Circuit.{opAt, errAt}
 use Rattle.body.specs.declared.Taken.{Taken}
 use Rattle.body.specs.declared.Taken.the-variants.{Next, Refused}
 use Rattle.body.specs.Entry.{operationAt, stepOf, errorAt}
-use Rattle.body.specs.Body.{isGood, goodOperation}
 use Rattle.body.proofs.Steps.{is-step, no-step}
 use Rattle.book.specs.Decoded.{operationIn, operationOf, operationsOf, errorsOf}
 
@@ -30,9 +31,14 @@ module _ (d n : ℕ) (ops : List ℕ) where
       → opAt (operationsOf d n ops) k ≡ step .operation
   step-taken k {taken} {step} h e f = op-at k h ∙ ap operationIn (is-step k (operationAt d n ops k) step (sym e ∙ f))
 
-  pub step-refused : (k : ℕ) {taken : Taken} {number place : ℕ} → goodOperation d n ops k ≡ true → taken ≡ stepOf k (operationAt d n ops k)
-      → taken ≡ Refused number place → ⊥
-  step-refused k good e f = false≢true (sym (ap isGood (no-step k (operationAt d n ops k) _ _ (sym e ∙ f))) ∙ good)
+  -- an allowed entry is not refused
+  pub step-refused : (k : ℕ) {taken : Taken} {number place : ℕ} → k < length ops / 4 → allowed d n (opAt (operationsOf d n ops) k) ≡ true
+      → taken ≡ stepOf k (operationAt d n ops k)
+      → taken ≡ Refused number place
+      → ⊥
+  step-refused k h good e f =
+      let bad = op-at k h ∙ ap operationIn (no-step k (operationAt d n ops k) _ _ (sym e ∙ f)) in
+      distinct-facts n 0 0 (sym (ap (allowed d n) bad) ∙ good) .2 refl
 
 module _ (errors : List ℕ) where
   pub error-count : length (errorsOf errors) ≡ length errors / 5

@@ -2,13 +2,13 @@
 use mathlib.Core.Path.{_≡_}
 use mathlib.Core.Bool.{true}
 use mathlib.Core.List.{List}
-use Prim.Native.Nat.{ℕ, _/_}
+use Prim.Native.Nat.{ℕ, _/_, _≤_}
 use lib.ListN.{length}
 use Rattle.modular.specs.Dimension.{listed}
 use Rattle.row.specs.Row.{tab}
 use Rattle.tableau.specs.Tableau.{sized}
 use Rattle.operation.specs.declared.Operation.{Operation}
-use Rattle.operation.specs.declared.Operation.the-variants.{Measure}
+use Rattle.operation.specs.declared.Operation.the-variants.{Sum}
 use Rattle.operation.specs.declared.WeylError.{WeylError}
 use Rattle.circuit.specs.Circuit.{measured, Accepted}
 use Rattle.body.specs.declared.Decoded.{Decoded}
@@ -17,10 +17,10 @@ use Rattle.body.specs.Entry.{operationAt, errorAt}
 use Rattle.body.specs.Body.{accepted}
 use Rattle.book.specs.Book.{readBook, dimensionOf, quditsOf, bodyOf}
 
--- the operation of an entry; an accepted book has no bad one
+-- the operation of an entry; for a bad one, one that is never allowed
 abbrev pub operationIn : Decoded → Operation
 operationIn (Good op) = op
-operationIn Bad = Measure 0
+operationIn Bad = Sum 0 0
 
 abbrev pub operationOf : ℕ → ℕ → List ℕ → ℕ → Operation
 operationOf d n ops k = operationIn (operationAt d n ops k)
@@ -43,6 +43,12 @@ choicesIn s = bodyOf s 3
 
 abbrev pub measurementsIn : List ℕ → ℕ → ℕ → ℕ
 measurementsIn s d n = measured (opsIn s d n) (length (opsIn s d n))
+
+-- The three bodies of a book of n qudits of dimension d that none of 1 to 7 refuses, as a run is handed them.
+pub record Bodies (d n : ℕ) (ops errors choices : List ℕ) : Type 0 where
+  pub dimension : listed d ≡ true
+  pub qudits : n ≤ 64
+  pub lists : Accepted d n (operationsOf d n ops) (errorsOf errors) choices
 
 -- What the reader's answer says of the lists: its numbers are theirs, and they are what 2, 3 and 5 to 7 let through.
 pub record Means (s : List ℕ) (d n operations errors choices : ℕ) : Type 0 where

@@ -1,23 +1,19 @@
 -- The look at a qudit of a shifted tableau has the same pivot, or an outcome that is more by the frame's X power.
 -- Assumes nothing.
-use mathlib.Core.Path.{_≡_, refl, sym, ap, ap₂, _∙_, subst₂}
-use mathlib.Core.Bool.{Bool}
+use mathlib.Core.Path.{_≡_, refl, sym, ap, _∙_, subst₂}
 use mathlib.Core.List.{List}
 use Prim.Native.Nat.{ℕ, zero, suc, _+_, _*_, _%_, _<_}
 use native.Mathlib.Nat.{mod-lt}
 use native.Mathlib.Omega.{arith}
-use lib.Dec.{eqb}
 use borrow.Author.Tests.{eqb-true}
 use Rattle.congruence.proofs.Congruence.{cong-trans, cong-mul-left, small-cong}
 use Rattle.modular.specs.Modular.{neg}
 use Rattle.modular.specs.Dimension.{Dimension}
 use Rattle.row.specs.Row.{xOf, phaseOf}
-use Rattle.row.specs.Generators.{unit, zWith}
-use Rattle.row.proofs.Fill.{row-phase}
+use Rattle.row.specs.Generators.{zWith}
 use Rattle.weyl.proofs.Reading.{neg-small, neg-is}
 use Rattle.search.specs.declared.Place.{Place}
 use Rattle.search.specs.declared.Place.the-variants.{At, Nowhere}
-use Rattle.search.specs.Search.{unless, orElse, firstNot}
 use Rattle.search.proofs.Search.{found-fails, all-good}
 use Rattle.tableau.specs.Tableau.{every}
 use Rattle.validity.specs.Validity.{Valid}
@@ -26,25 +22,15 @@ use Rattle.look.specs.declared.Look.the-variants.{Free, Certain}
 use Rattle.look.specs.declared.Looked.{Looked}
 use Rattle.look.specs.declared.Looked.the-variants.{Seen}
 use Rattle.look.specs.Look.{stabilizerPower, commutes, pivotOf, weighted, lookBy, look}
+use Rattle.look.proofs.Combination.{pivot-same}
 use Rattle.measurement.proofs.View.{reads-at, basis, valid-on}
 use Rattle.measurement.proofs.Combination.{reads-weighted}
 use Rattle.measurement.proofs.Looks.{Commuting}
-use Rattle.measurement.proofs.Certain.{weighted-z, look-certain}
+use Rattle.measurement.proofs.Certain.{z-phase, weighted-z, look-certain}
 use Rattle.run.specs.Frame.{shiftRow, shiftRows}
 use Rattle.run.proofs.Frames.{shift-keeps}
 use Rattle.carrying.proofs.Shift.{reads-shift, shift-z}
 use Rattle.carrying.proofs.Rows.{shifted-at, weighted-shifted}
-
-first-same : (p q : ℕ → Bool) (m : ℕ) → ((i : ℕ) → i < m → p i ≡ q i) → firstNot p m ≡ firstNot q m
-unfolding firstNot
-first-same p q zero h = refl
-first-same p q (suc m) h =
-    ap₂ (λ (a : Place) (b : Bool). orElse a (unless b (At m) Nowhere)) (first-same p q m (λ i l. h i (omega arith))) (h m (omega arith))
-
--- The pivot depends on the stabilizers' X powers alone.
-pub pivot-same : (n : ℕ) (t u : List ℕ) (q : ℕ) → ((i : ℕ) → i < n → stabilizerPower n t q i ≡ stabilizerPower n u q i) → pivotOf n t q ≡ pivotOf n u q
-unfolding pivotOf
-pivot-same n t u q h = first-same (commutes n t q) (commutes n u q) n (λ i l. ap (λ (x : ℕ). eqb x 0) (h i l))
 
 -- −(−x)
 neg-neg : (e : ℕ) {x : ℕ} → x < suc e → x ≡ neg (suc e) (neg (suc e) x)
@@ -53,10 +39,6 @@ neg-neg e {x} l =
     (small-cong (cong-trans (neg-is e _) (cong-trans (cong-mul-left e (neg-is e x)) (record { p = x; q = e * x; eq = omega arith })))
     (neg-small (omega arith) _)
     l)
-
-z-phase : (n q r : ℕ) → phaseOf n (zWith n q r) ≡ r
-unfolding zWith
-z-phase n q r = row-phase n (unit (n + q)) r
 
 -- what is seen in t, and what in t shifted by F
 pub data Both (d n : ℕ) (t : List ℕ) (q : ℕ) (F : List ℕ) : Looked → Looked → Type 0 where

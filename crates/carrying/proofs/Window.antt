@@ -22,10 +22,10 @@ use Rattle.circuit.specs.Circuit.{errAt}
 use Rattle.search.specs.declared.Place.{Place}
 use Rattle.search.specs.declared.Place.the-variants.{At, Nowhere}
 use Rattle.look.specs.Look.{destabilizerPower, pivotOf, combination, weighted, outcomeOf, lookBy, look}
+use Rattle.look.proofs.Combination.{pivot-same}
 use Rattle.collapse.specs.Collapse.{collapseRow, collapse}
 use Rattle.collapse.proofs.Collapsed.{collapsed-keeps}
 use Rattle.run.specs.Direct.{strike}
-use Rattle.carrying.proofs.Looks.{pivot-same}
 
 pub record Window (n : ℕ) (t u : List ℕ) : Type 0 where
   pub room : 2 * n * (2 * n + 1) ≤ length t

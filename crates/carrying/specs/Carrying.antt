@@ -1,6 +1,5 @@
 -- Demand 3 over decoded lists: a Weyl error, wherever it strikes, may be carried to the end. The statements are proved in proofs/.
 use mathlib.Core.Path.{_≡_}
-use mathlib.Core.Bool.{true}
 use mathlib.Core.Logic.{_↔_}
 use mathlib.Core.List.{List, [], _++_}
 use Prim.Native.Nat.{ℕ, _+_, _*_, _%_, _<_, _≤_}

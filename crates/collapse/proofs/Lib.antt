@@ -1,3 +1,5 @@
 -- What the proofs of several functions use.
 pub mod Multiples
+pub mod Exponents
 pub mod Collapsed
+pub mod Even

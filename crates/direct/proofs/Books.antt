@@ -8,10 +8,9 @@ use lib.Dec.{leb}
 use lib.ListN.{length}
 use borrow.Author.Tests.{leb-true, not-true, not-false}
 use Rattle.modular.proofs.Listed.{dimension}
-use Rattle.tableau.specs.Tableau.{Tableau}
 use Rattle.circuit.specs.Circuit.{measured}
-use Rattle.validity.specs.Validity.{valid}
-use Rattle.validity.proofs.Exactly.{valid-tableau, valid-exactly}
+use Rattle.validity.specs.Validity.{Valid, valid}
+use Rattle.validity.proofs.Exactly.{valid-exactly}
 use Rattle.book.specs.Book.{partOf}
 use Rattle.book.specs.Decoded.{operationsOf, errorsOf}
 use Rattle.book.proofs.Handed.{Handed}
@@ -42,8 +41,8 @@ module _ (s : List ℕ) {d n choices : ℕ} (g : Handed s d n choices) (t result
     invalid-book {v} e k = rw (g .reads, g .measurements, room, sym e ∙ not-true v k)
 
     -- not 9
-    pub tested : {v : Bool} → v ≡ valid d n t → not v ≡ false → Tableau d n t
-    tested {v} e k = valid-tableau d n t (valid-exactly d n (dimension d (g .dimension)) t (rooms .0) .0 (sym e ∙ not-false v k))
+    pub tested : {v : Bool} → v ≡ valid d n t → not v ≡ false → Valid d n t
+    tested {v} e k = valid-exactly d n (dimension d (g .dimension)) t (rooms .0) .0 (sym e ∙ not-false v k)
 
     pub run-book : {v : Bool} → v ≡ valid d n t → not v ≡ false → {left : Left}
         → left ≡ ended (measured (operationsOf d n (partOf s 4)) (length (operationsOf d n (partOf s 4))))

@@ -19,15 +19,15 @@ use Rattle.direct.specs.Progress.{stateAfter}
 abbrev left : ℕ → Measured → Run State
 left j m = stateAfter (m .seen) j (m .rows) (m .results)
 
-plain : {x d : ℕ} → x < d → (x + 0) % d ≡ x
-plain {x} h = rw (add-zero x) (mod-eq-of-lt h)
+nothing-added : {x d : ℕ} → x < d → (x + 0) % d ≡ x
+nothing-added {x} h = rw (add-zero x) (mod-eq-of-lt h)
 
 module _ (d n : ℕ) (choices : List ℕ) (j q : ℕ) (t results : List ℕ) (h : getD choices j 0 < d) where
   by-look : (seen : Looked) → Fits d n seen
       → left j (measureBy d n q (getD choices j 0) 0 j t results seen) ≡ directLook d n choices j q (record { rows = t; results = results }) seen
   unfolding measureBy directLook
-  by-look (Seen (Free k)) l = rw (plain h)
-  by-look (Seen (Certain outcome)) l = rw (plain l)
+  by-look (Seen (Free k)) l = rw (nothing-added h)
+  by-look (Seen (Certain outcome)) l = rw (nothing-added l)
   by-look NotZ l = refl
 
   pub measured-so : {m : Measured} → 0 < d → m ≡ measureBy d n q (getD choices j 0) 0 j t results (look d n t q)

@@ -7,8 +7,9 @@ use lib.ListN.{length}
 use Rattle.search.specs.Search.{unless}
 use Rattle.validity.specs.Validity.{valid}
 use Rattle.body.specs.Body.{Told, refused, accepted}
-use Rattle.book.specs.Book.{readBook}
-use Rattle.book.specs.Decoded.{opsIn, errorsIn, choicesIn, measurementsIn}
+use Rattle.circuit.specs.Circuit.{measured}
+use Rattle.book.specs.Book.{readBook, bodyOf}
+use Rattle.book.specs.Decoded.{operationsOf, errorsOf, measurementsIn}
 use Rattle.run.specs.Run.{Run, done}
 use Rattle.run.specs.Run as run
 use Rattle.run.specs.Direct.{State, directRun}
@@ -29,14 +30,18 @@ abbrev pub ended : ℕ → Run State → Left
 ended measurements (run.refused j t results) = record { number = 10; place = j; tableau = t; results = results }
 ended measurements (done st) = record { number = 0; place = measurements; tableau = st .rows; results = st .results }
 
+-- what a run of three bodies ends with
+abbrev pub directBodies : ℕ → ℕ → List ℕ → List ℕ → List ℕ → State → Left
+directBodies d n ops errors choices st =
+    ended (measured (operationsOf d n ops) (length (operationsOf d n ops))) (directRun d n (operationsOf d n ops) (errorsOf errors) choices st)
+
 -- 1 to 7, then 8, then 9
 unfoldable pub directTold : List ℕ → List ℕ → List ℕ → Told → Left
 directTold s t results (refused number place) = record { number = number; place = place; tableau = t; results = results }
 directTold s t results (accepted d n operations errors choices) =
     unless (roomy n (measurementsIn s d n) t results) (record { number = 8; place = 0; tableau = t; results = results })
     (unless (valid d n t) (record { number = 9; place = 0; tableau = t; results = results })
-    (ended (measurementsIn s d n)
-    (directRun d n (opsIn s d n) (errorsIn s) (choicesIn s) (record { rows = t; results = results }))))
+    (directBodies d n (bodyOf s 1) (bodyOf s 2) (bodyOf s 3) (record { rows = t; results = results })))
 
 unfoldable pub directBook : List ℕ → List ℕ → List ℕ → Left
 directBook s t results = directTold s t results (readBook s)

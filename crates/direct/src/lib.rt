@@ -4,16 +4,16 @@ ghost use mathlib.Core.Bool.{true};
 ghost use Prim.Native.Nat.{ℕ, _+_, _*_, _/_, _<_, _≤_};
 ghost use lib.ListN.{length, getD};
 ghost use Rattle.modular.specs.Dimension.{listed};
-ghost use Rattle.tableau.specs.Tableau.{Tableau};
+ghost use Rattle.validity.specs.Validity.{Valid};
+ghost use Rattle.even.specs.Even.{plain};
 ghost use Rattle.operation.specs.Operation.{allowed};
 ghost use Rattle.operation.specs.Error.{errorAllowed};
-ghost use Rattle.circuit.specs.Circuit.{errAt, tally, measured, Accepted};
-ghost use Rattle.body.specs.Body.{goodOperation};
-ghost use Rattle.book.specs.Decoded.{operationsOf, errorsOf};
-ghost use Rattle.run.specs.Direct.{strike, directOperation, directStep, directRun};
+ghost use Rattle.circuit.specs.Circuit.{errAt, tally, measured};
+ghost use Rattle.book.specs.Decoded.{operationsOf, errorsOf, Bodies};
+ghost use Rattle.run.specs.Direct.{strike, directOperation, directStep};
 ghost use Rattle.circuit.specs.Reached.{Reached, Stands};
 ghost use Rattle.direct.specs.Progress.{stateAfter, stateOf};
-ghost use Rattle.direct.specs.DirectBook.{roomy, ended, directBook};
+ghost use Rattle.direct.specs.DirectBook.{roomy, directBodies, directBook};
 use body::Reading;
 use body::Taken;
 use circuit::Advanced;
@@ -23,8 +23,8 @@ use tableau::Answer;
 
 // Applies the errors of place k, which begin at entry j, to every row. The first entry of a later place is returned.
 fn strike(t: &mut [u8], errors: &[u8], j: usize, k: usize, d: u8, n: usize) -> usize
-    requires { ⌜ (listed d ≡ true) × (n ≤ 64) × Tableau d n (now t) × Reached (errorsOf (now errors)) j k × ((i : ℕ) → i < length (errorsOf (now errors)) → errorAllowed d n (errAt (errorsOf (now errors)) i) ≡ true) × ((i h : ℕ) → i ≤ h → h < length (errorsOf (now errors)) → errAt (errorsOf (now errors)) i .place ≤ errAt (errorsOf (now errors)) h .place) ⌝ }
-    ensures { λ r. ⌜ (now (t .exit) ≡ strike d n (errorsOf (now (errors .entry))) k (now (t .entry)) (length (errorsOf (now (errors .entry))))) × Tableau d n (now (t .exit)) × Reached (errorsOf (now (errors .entry))) r (k + 1) ⌝ }
+    requires { ⌜ (listed d ≡ true) × (n ≤ 64) × Valid d n (now t) × Reached (errorsOf (now errors)) j k × ((i : ℕ) → i < length (errorsOf (now errors)) → errorAllowed d n (errAt (errorsOf (now errors)) i) ≡ true) × ((i h : ℕ) → i ≤ h → h < length (errorsOf (now errors)) → errAt (errorsOf (now errors)) i .place ≤ errAt (errorsOf (now errors)) h .place) ⌝ }
+    ensures { λ r. ⌜ (plain d n (now (t .exit)) ≡ strike d n (errorsOf (now (errors .entry))) k (plain d n (now (t .entry))) (length (errorsOf (now (errors .entry))))) × Valid d n (now (t .exit)) × Reached (errorsOf (now (errors .entry))) r (k + 1) ⌝ }
 {
     let count = errors.len() / 5;
     let mut i = j;
@@ -49,8 +49,8 @@ fn perform(
     d: u8,
     n: usize,
 ) -> bool
-    requires { ⌜ (listed d ≡ true) × (n ≤ 64) × (allowed d n operation ≡ true) × (j + tally operation ≤ length (now choices)) × (2 * length (now choices) ≤ length (now results)) × ((i : ℕ) → i < length (now choices) → getD (now choices) i 0 < d) × Tableau d n (now t) ⌝ }
-    ensures { λ r. ⌜ (stateAfter r j (now (t .exit)) (now (results .exit)) ≡ directOperation d n (now (choices .entry)) j (record { rows = now (t .entry); results = now (results .entry) }) operation) × Tableau d n (now (t .exit)) × (length (now (results .exit)) ≡ length (now (results .entry))) ⌝ }
+    requires { ⌜ (listed d ≡ true) × (n ≤ 64) × (allowed d n operation ≡ true) × (j + tally operation ≤ length (now choices)) × (2 * length (now choices) ≤ length (now results)) × ((i : ℕ) → i < length (now choices) → getD (now choices) i 0 < d) × Valid d n (now t) ⌝ }
+    ensures { λ r. ⌜ (stateAfter r j (plain d n (now (t .exit))) (now (results .exit)) ≡ directOperation d n (now (choices .entry)) j (record { rows = plain d n (now (t .entry)); results = now (results .entry) }) operation) × Valid d n (now (t .exit)) × (length (now (results .exit)) ≡ length (now (results .entry))) ⌝ }
 {
     if let Operation::Measure { q } = operation {
         return measure::measure(t, results, q, choices[j], 0, j, d, n);
@@ -71,8 +71,8 @@ fn advance(
     d: u8,
     n: usize,
 ) -> Advanced
-    requires { ⌜ (k < length (now ops) / 4) × (listed d ≡ true) × (n ≤ 64) × ((i : ℕ) → i < length (now ops) / 4 → goodOperation d n (now ops) i ≡ true) × Accepted d n (operationsOf d n (now ops)) (errorsOf (now errors)) (now choices) × Reached (errorsOf (now errors)) (at .entry) k × (at .measurements ≡ measured (operationsOf d n (now ops)) k) × (2 * length (now choices) ≤ length (now results)) × Tableau d n (now t) ⌝ }
-    ensures { λ r. ⌜ (stateOf r (now (t .exit)) (now (results .exit)) ≡ directStep d n (operationsOf d n (now (ops .entry))) (errorsOf (now (errors .entry))) (now (choices .entry)) k (record { rows = now (t .entry); results = now (results .entry) })) × Stands (operationsOf d n (now (ops .entry))) (errorsOf (now (errors .entry))) (k + 1) r × Tableau d n (now (t .exit)) × (length (now (results .exit)) ≡ length (now (results .entry))) ⌝ }
+    requires { ⌜ (k < length (now ops) / 4) × Bodies d n (now ops) (now errors) (now choices) × Reached (errorsOf (now errors)) (at .entry) k × (at .measurements ≡ measured (operationsOf d n (now ops)) k) × (2 * length (now choices) ≤ length (now results)) × Valid d n (now t) ⌝ }
+    ensures { λ r. ⌜ (stateOf r (plain d n (now (t .exit))) (now (results .exit)) ≡ directStep d n (operationsOf d n (now (ops .entry))) (errorsOf (now (errors .entry))) (now (choices .entry)) k (record { rows = plain d n (now (t .entry)); results = now (results .entry) })) × Stands (operationsOf d n (now (ops .entry))) (errorsOf (now (errors .entry))) (k + 1) r × Valid d n (now (t .exit)) × (length (now (results .exit)) ≡ length (now (results .entry))) ⌝ }
 {
     let from = at.entry;
     let entry = strike(t, errors, from, k, d, n);
@@ -97,8 +97,8 @@ fn advance(
     })
 }
 
-// All operations, then the errors after them.
-fn run(
+// All operations, then the errors after them, on rows with even phases.
+fn run_even(
     t: &mut [u8],
     results: &mut [u8],
     ops: &[u8],
@@ -107,8 +107,8 @@ fn run(
     d: u8,
     n: usize,
 ) -> Answer
-    requires { ⌜ (listed d ≡ true) × (n ≤ 64) × ((i : ℕ) → i < length (now ops) / 4 → goodOperation d n (now ops) i ≡ true) × Accepted d n (operationsOf d n (now ops)) (errorsOf (now errors)) (now choices) × (2 * length (now choices) ≤ length (now results)) × Tableau d n (now t) ⌝ }
-    ensures { λ r. ⌜ record { number = r .number; place = r .place; tableau = now (t .exit); results = now (results .exit) } ≡ ended (measured (operationsOf d n (now (ops .entry))) (length (operationsOf d n (now (ops .entry))))) (directRun d n (operationsOf d n (now (ops .entry))) (errorsOf (now (errors .entry))) (now (choices .entry)) (record { rows = now (t .entry); results = now (results .entry) })) ⌝ }
+    requires { ⌜ Bodies d n (now ops) (now errors) (now choices) × (2 * length (now choices) ≤ length (now results)) × Valid d n (now t) ⌝ }
+    ensures { λ r. ⌜ (record { number = r .number; place = r .place; tableau = plain d n (now (t .exit)); results = now (results .exit) } ≡ directBodies d n (now (ops .entry)) (now (errors .entry)) (now (choices .entry)) (record { rows = plain d n (now (t .entry)); results = now (results .entry) })) × Valid d n (now (t .exit)) ⌝ }
 {
     let count = ops.len() / 4;
     let mut at = Progress {
@@ -134,6 +134,25 @@ fn run(
         number: 0,
         place: at.measurements,
     }
+}
+
+// The same on rows with their own phases.
+fn run(
+    t: &mut [u8],
+    results: &mut [u8],
+    ops: &[u8],
+    errors: &[u8],
+    choices: &[u8],
+    d: u8,
+    n: usize,
+) -> Answer
+    requires { ⌜ Bodies d n (now ops) (now errors) (now choices) × (2 * length (now choices) ≤ length (now results)) × Valid d n (now t) ⌝ }
+    ensures { λ r. ⌜ record { number = r .number; place = r .place; tableau = now (t .exit); results = now (results .exit) } ≡ directBodies d n (now (ops .entry)) (now (errors .entry)) (now (choices .entry)) (record { rows = now (t .entry); results = now (results .entry) }) ⌝ }
+{
+    even::to_even(t, d, n);
+    let answer = run_even(t, results, ops, errors, choices, d, n);
+    even::to_plain(t, d, n);
+    answer
 }
 
 // Whether each buffer is as long as it must be.

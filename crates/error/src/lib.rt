@@ -1,12 +1,15 @@
-// An error X^p Z^s on a row, on every row of a tableau, and on a frame.
+// An error X^p Z^s on a row and on every row of a tableau with even phases.
 ghost use mathlib.Core.Path.{_≡_};
 ghost use mathlib.Core.Bool.{true};
 ghost use Prim.Native.Nat.{_+_, _*_, _<_, _≤_};
 ghost use lib.ListN.{length};
 ghost use Rattle.modular.specs.Modular.{Reciprocal};
-ghost use Rattle.row.specs.Row.{Powers, Row};
-ghost use Rattle.tableau.specs.Tableau.{Tableau, put, row};
-ghost use Rattle.operation.specs.Error.{errorAllowed, errorRow, errorRows, errorFrame};
+ghost use Rattle.modular.specs.Dimension.{listed};
+ghost use Rattle.row.specs.Row.{Row};
+ghost use Rattle.tableau.specs.Tableau.{put, row};
+ghost use Rattle.validity.specs.Validity.{Valid};
+ghost use Rattle.even.specs.Even.{plain};
+ghost use Rattle.operation.specs.Error.{errorAllowed, errorRow, errorRows};
 use operation::WeylError;
 
 fn error_row(v: &mut [u8], e: WeylError, d: u8, m: u16, n: usize)
@@ -31,8 +34,8 @@ fn error_at(t: &mut [u8], i: usize, e: WeylError, d: u8, m: u16, n: usize)
 
 // The error on every row.
 pub fn error_rows(t: &mut [u8], e: WeylError, d: u8, n: usize)
-    requires { ⌜ (3 ≤ d) × (d ≤ 31) × (n ≤ 64) × (errorAllowed d n e ≡ true) × Tableau d n (now t) ⌝ }
-    ensures { λ _. ⌜ (now (t .exit) ≡ errorRows d n e (now (t .entry))) × Tableau d n (now (t .exit)) ⌝ }
+    requires { ⌜ (listed d ≡ true) × (n ≤ 64) × (errorAllowed d n e ≡ true) × Valid d n (now t) ⌝ }
+    ensures { λ _. ⌜ (plain d n (now (t .exit)) ≡ errorRows d n e (plain d n (now (t .entry)))) × Valid d n (now (t .exit)) ⌝ }
 {
     let m = modular::reciprocal(d);
     let rows = 2 * n;
@@ -41,16 +44,4 @@ pub fn error_rows(t: &mut [u8], e: WeylError, d: u8, n: usize)
         error_at(t, i, e, d, m, n);
         i += 1;
     }
-}
-
-// The error on a frame.
-pub fn error_frame(frame: &mut [u8], e: WeylError, d: u8, n: usize)
-    requires { ⌜ (d ≤ 31) × (errorAllowed d n e ≡ true) × Powers d n (now frame) ⌝ }
-    ensures { λ _. ⌜ (now (frame .exit) ≡ errorFrame d n e (now (frame .entry))) × Powers d n (now (frame .exit)) ⌝ }
-{
-    let q = e.qudit;
-    let x = modular::add(d, frame[q], e.p);
-    let z = modular::add(d, frame[n + q], e.s);
-    frame[q] = x;
-    frame[n + q] = z;
 }

@@ -9,10 +9,9 @@ use lib.ListN.{length}
 use borrow.Author.Tests.{leb-true, not-true, not-false}
 use Rattle.modular.proofs.Listed.{dimension}
 use Rattle.search.proofs.Search.{both}
-use Rattle.tableau.specs.Tableau.{Tableau}
 use Rattle.circuit.specs.Circuit.{measured}
-use Rattle.validity.specs.Validity.{valid}
-use Rattle.validity.proofs.Exactly.{valid-tableau, valid-exactly}
+use Rattle.validity.specs.Validity.{Valid, valid}
+use Rattle.validity.proofs.Exactly.{valid-exactly}
 use Rattle.book.specs.Book.{partOf}
 use Rattle.book.specs.Decoded.{operationsOf, errorsOf}
 use Rattle.book.proofs.Handed.{Handed}
@@ -62,8 +61,8 @@ module _ (s : List ℕ) {d n choices : ℕ} (g : Handed s d n choices) (lent : B
       tested : valid d n (lent .tableau) ≡ true
       tested = sym e ∙ not-false v k
 
-      pub rows : Tableau d n (lent .tableau)
-      rows = valid-tableau d n (lent .tableau) (valid-exactly d n (dimension d (g .dimension)) (lent .tableau) (room .tableau) .0 tested)
+      pub rows : Valid d n (lent .tableau)
+      rows = valid-exactly d n (dimension d (g .dimension)) (lent .tableau) (room .tableau) .0 tested
 
       pub run-book : {left : FrameLeft}
           → left ≡ ran d n (operationsOf d n (partOf s 4)) (errorsOf (partOf s 10)) (partOf s 16)

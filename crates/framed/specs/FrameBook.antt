@@ -7,8 +7,9 @@ use lib.ListN.{length}
 use Rattle.search.specs.Search.{unless}
 use Rattle.validity.specs.Validity.{valid}
 use Rattle.body.specs.Body.{Told, refused, accepted}
-use Rattle.book.specs.Book.{readBook}
-use Rattle.book.specs.Decoded.{opsIn, errorsIn, choicesIn, measurementsIn}
+use Rattle.circuit.specs.Circuit.{measured}
+use Rattle.book.specs.Book.{readBook, bodyOf}
+use Rattle.book.specs.Decoded.{operationsOf, errorsOf, measurementsIn}
 use Rattle.run.specs.Run.{Run, done}
 use Rattle.run.specs.Run as run
 use Rattle.run.specs.Frame.{Ended, frameRun}
@@ -53,15 +54,20 @@ frameEnded measurements lent (done end) =
 abbrev pub turnedAway : ℕ → ℕ → Buffers → FrameLeft
 turnedAway number place lent = record { number = number; place = place; verdict = 0; left = lent }
 
+-- what a run of three bodies ends with
+abbrev pub frameBodies : ℕ → ℕ → List ℕ → List ℕ → List ℕ → Buffers → FrameLeft
+frameBodies d n ops errors choices lent =
+    frameEnded (measured (operationsOf d n ops) (length (operationsOf d n ops))) lent
+    (frameRun d n (operationsOf d n ops) (errorsOf errors) choices (record { rows = lent .tableau; results = lent .results }) (lent .shifts)
+    (lent .frame))
+
 -- 1 to 7, then 8, then 9
 unfoldable pub frameTold : List ℕ → Buffers → Told → FrameLeft
 frameTold s lent (refused number place) = turnedAway number place lent
 frameTold s lent (accepted d n operations errors choices) =
     unless (frameRoomy n (measurementsIn s d n) lent) (turnedAway 8 0 lent)
     (unless (valid d n (lent .tableau)) (turnedAway 9 0 lent)
-    (frameEnded (measurementsIn s d n) lent
-    (frameRun d n (opsIn s d n) (errorsIn s) (choicesIn s) (record { rows = lent .tableau; results = lent .results }) (lent .shifts)
-    (lent .frame))))
+    (frameBodies d n (bodyOf s 1) (bodyOf s 2) (bodyOf s 3) lent))
 
 unfoldable pub frameBook : List ℕ → Buffers → FrameLeft
 frameBook s lent = frameTold s lent (readBook s)

@@ -4,18 +4,20 @@ ghost use mathlib.Core.Bool.{true, cond};
 ghost use mathlib.Core.List.{_++_};
 ghost use Prim.Native.Nat.{ℕ, _+_, _*_, _/_, _<_, _≤_};
 ghost use lib.ListN.{length, getD, drop};
+ghost use Rattle.modular.specs.Modular.{WideReciprocal};
 ghost use Rattle.modular.specs.Dimension.{listed};
 ghost use Rattle.row.specs.Row.{Powers, Row, tab, pairing};
 ghost use Rattle.search.specs.Search.{all};
 ghost use Rattle.tableau.specs.Tableau.{Tableau, put, row};
+ghost use Rattle.validity.specs.Validity.{Valid};
+ghost use Rattle.even.specs.Even.{plain};
 ghost use Rattle.operation.specs.Operation.{allowed};
 ghost use Rattle.operation.specs.Error.{errorAllowed};
-ghost use Rattle.body.specs.Body.{goodOperation};
-ghost use Rattle.circuit.specs.Circuit.{errAt, tally, measured, Accepted};
+ghost use Rattle.circuit.specs.Circuit.{errAt, tally, measured};
 ghost use Rattle.circuit.specs.Reached.{Reached, Stands};
-ghost use Rattle.book.specs.Decoded.{operationsOf, errorsOf};
-ghost use Rattle.run.specs.Frame.{noFrame, strikeFrame, shiftAt, shiftRow, shiftRows, verdictOf, framedOperation, framedStep, frameRun};
-ghost use Rattle.framed.specs.FrameBook.{frameRoomy, frameEnded, frameBook};
+ghost use Rattle.book.specs.Decoded.{operationsOf, errorsOf, Bodies};
+ghost use Rattle.run.specs.Frame.{noFrame, strikeFrame, shiftAt, shiftRow, shiftRows, verdictOf, framedOperation, framedStep};
+ghost use Rattle.framed.specs.FrameBook.{frameRoomy, frameBodies, frameBook};
 ghost use Rattle.framed.specs.Progress.{framedAfter, framedOf, framedAll, Counted, isZero};
 use body::Reading;
 use body::Taken;
@@ -44,7 +46,7 @@ fn strike(frame: &mut [u8], errors: &[u8], j: usize, k: usize, d: u8, n: usize) 
         if e.place != k {
             return i;
         }
-        error::error_frame(frame, e, d, n);
+        frames::error_frame(frame, e, d, n);
         i += 1;
     }
     i
@@ -62,14 +64,14 @@ fn perform(
     d: u8,
     n: usize,
 ) -> bool
-    requires { ⌜ (listed d ≡ true) × (n ≤ 64) × (allowed d n operation ≡ true) × (j + tally operation ≤ length (now choices)) × (2 * length (now choices) ≤ length (now results)) × ((i : ℕ) → i < length (now choices) → getD (now choices) i 0 < d) × Powers d n (now frame) × Tableau d n (now t) ⌝ }
-    ensures { λ r. ⌜ (framedAfter r j (record { rows = now (t .exit); results = now (results .exit); frame = now (frame .exit) }) ≡ framedOperation d n (now (choices .entry)) j (record { rows = now (t .entry); results = now (results .entry); frame = now (frame .entry) }) operation) × Tableau d n (now (t .exit)) × Powers d n (now (frame .exit)) × (length (now (frame .exit)) ≡ length (now (frame .entry))) × (length (now (results .exit)) ≡ length (now (results .entry))) ⌝ }
+    requires { ⌜ (listed d ≡ true) × (n ≤ 64) × (allowed d n operation ≡ true) × (j + tally operation ≤ length (now choices)) × (2 * length (now choices) ≤ length (now results)) × ((i : ℕ) → i < length (now choices) → getD (now choices) i 0 < d) × Powers d n (now frame) × Valid d n (now t) ⌝ }
+    ensures { λ r. ⌜ (framedAfter r j (record { rows = plain d n (now (t .exit)); results = now (results .exit); frame = now (frame .exit) }) ≡ framedOperation d n (now (choices .entry)) j (record { rows = plain d n (now (t .entry)); results = now (results .entry); frame = now (frame .entry) }) operation) × Valid d n (now (t .exit)) × Powers d n (now (frame .exit)) × (length (now (frame .exit)) ≡ length (now (frame .entry))) × (length (now (results .exit)) ≡ length (now (results .entry))) ⌝ }
 {
     if let Operation::Measure { q } = operation {
         return measure::measure(t, results, q, choices[j], frame[q], j, d, n);
     }
     gate::gate_rows(t, operation, d, n);
-    gate::gate_frame(frame, operation, d, n);
+    frames::gate_frame(frame, operation, d, n);
     true
 }
 
@@ -86,8 +88,8 @@ fn advance(
     d: u8,
     n: usize,
 ) -> Advanced
-    requires { ⌜ (k < length (now ops) / 4) × (listed d ≡ true) × (n ≤ 64) × ((i : ℕ) → i < length (now ops) / 4 → goodOperation d n (now ops) i ≡ true) × Accepted d n (operationsOf d n (now ops)) (errorsOf (now errors)) (now choices) × Reached (errorsOf (now errors)) (at .entry) k × (at .measurements ≡ measured (operationsOf d n (now ops)) k) × (2 * length (now choices) ≤ length (now results)) × Powers d n (now frame) × Tableau d n (now t) ⌝ }
-    ensures { λ r. ⌜ (framedOf r (record { rows = now (t .exit); results = now (results .exit); frame = now (frame .exit) }) ≡ framedStep d n (operationsOf d n (now (ops .entry))) (errorsOf (now (errors .entry))) (now (choices .entry)) k (record { rows = now (t .entry); results = now (results .entry); frame = now (frame .entry) })) × Stands (operationsOf d n (now (ops .entry))) (errorsOf (now (errors .entry))) (k + 1) r × Tableau d n (now (t .exit)) × Powers d n (now (frame .exit)) × (length (now (frame .exit)) ≡ length (now (frame .entry))) × (length (now (results .exit)) ≡ length (now (results .entry))) ⌝ }
+    requires { ⌜ (k < length (now ops) / 4) × Bodies d n (now ops) (now errors) (now choices) × Reached (errorsOf (now errors)) (at .entry) k × (at .measurements ≡ measured (operationsOf d n (now ops)) k) × (2 * length (now choices) ≤ length (now results)) × Powers d n (now frame) × Valid d n (now t) ⌝ }
+    ensures { λ r. ⌜ (framedOf r (record { rows = plain d n (now (t .exit)); results = now (results .exit); frame = now (frame .exit) }) ≡ framedStep d n (operationsOf d n (now (ops .entry))) (errorsOf (now (errors .entry))) (now (choices .entry)) k (record { rows = plain d n (now (t .entry)); results = now (results .entry); frame = now (frame .entry) })) × Stands (operationsOf d n (now (ops .entry))) (errorsOf (now (errors .entry))) (k + 1) r × Valid d n (now (t .exit)) × Powers d n (now (frame .exit)) × (length (now (frame .exit)) ≡ length (now (frame .entry))) × (length (now (results .exit)) ≡ length (now (results .entry))) ⌝ }
 {
     let from = at.entry;
     let entry = strike(frame, errors, from, k, d, n);
@@ -112,8 +114,9 @@ fn advance(
     })
 }
 
-// All operations, then the errors after them: the frame is the final one. The number of measurements, or refusal 10.
-fn carry(
+// All operations on rows with even phases, then the errors after them: the frame is the final one. The number of measurements,
+// or refusal 10.
+fn carry_even(
     t: &mut [u8],
     results: &mut [u8],
     frame: &mut [u8],
@@ -123,8 +126,8 @@ fn carry(
     d: u8,
     n: usize,
 ) -> Advanced
-    requires { ⌜ (listed d ≡ true) × (n ≤ 64) × ((i : ℕ) → i < length (now ops) / 4 → goodOperation d n (now ops) i ≡ true) × Accepted d n (operationsOf d n (now ops)) (errorsOf (now errors)) (now choices) × (2 * length (now choices) ≤ length (now results)) × Powers d n (now frame) × Tableau d n (now t) ⌝ }
-    ensures { λ r. ⌜ (framedOf r (record { rows = now (t .exit); results = now (results .exit); frame = now (frame .exit) }) ≡ framedAll d n (operationsOf d n (now (ops .entry))) (errorsOf (now (errors .entry))) (now (choices .entry)) (record { rows = now (t .entry); results = now (results .entry); frame = now (frame .entry) })) × Counted (operationsOf d n (now (ops .entry))) r × Tableau d n (now (t .exit)) × Powers d n (now (frame .exit)) × (length (now (frame .exit)) ≡ length (now (frame .entry))) ⌝ }
+    requires { ⌜ Bodies d n (now ops) (now errors) (now choices) × (2 * length (now choices) ≤ length (now results)) × Powers d n (now frame) × Valid d n (now t) ⌝ }
+    ensures { λ r. ⌜ (framedOf r (record { rows = plain d n (now (t .exit)); results = now (results .exit); frame = now (frame .exit) }) ≡ framedAll d n (operationsOf d n (now (ops .entry))) (errorsOf (now (errors .entry))) (now (choices .entry)) (record { rows = plain d n (now (t .entry)); results = now (results .entry); frame = now (frame .entry) })) × Counted (operationsOf d n (now (ops .entry))) r × Valid d n (now (t .exit)) × Powers d n (now (frame .exit)) × (length (now (frame .exit)) ≡ length (now (frame .entry))) ⌝ }
 {
     let count = ops.len() / 4;
     let mut at = Progress {
@@ -152,37 +155,58 @@ fn carry(
     })
 }
 
+// The same on rows with their own phases.
+fn carry(
+    t: &mut [u8],
+    results: &mut [u8],
+    frame: &mut [u8],
+    ops: &[u8],
+    errors: &[u8],
+    choices: &[u8],
+    d: u8,
+    n: usize,
+) -> Advanced
+    requires { ⌜ Bodies d n (now ops) (now errors) (now choices) × (2 * length (now choices) ≤ length (now results)) × Powers d n (now frame) × Valid d n (now t) ⌝ }
+    ensures { λ r. ⌜ (framedOf r (record { rows = now (t .exit); results = now (results .exit); frame = now (frame .exit) }) ≡ framedAll d n (operationsOf d n (now (ops .entry))) (errorsOf (now (errors .entry))) (now (choices .entry)) (record { rows = now (t .entry); results = now (results .entry); frame = now (frame .entry) })) × Counted (operationsOf d n (now (ops .entry))) r × Tableau d n (now (t .exit)) × Powers d n (now (frame .exit)) × (length (now (frame .exit)) ≡ length (now (frame .entry))) ⌝ }
+{
+    even::to_even(t, d, n);
+    let carried = carry_even(t, results, frame, ops, errors, choices, d, n);
+    even::to_plain(t, d, n);
+    carried
+}
+
 // The shift of a row is its pairing with the frame; it is added to the row's phase.
-fn shift_row(v: &mut [u8], frame: &[u8], d: u8, n: usize) -> u8
-    requires { ⌜ (0 < d) × (d ≤ 31) × (n ≤ 64) × Row d n (now v) × Powers d n (now frame) ⌝ }
+fn shift_row(v: &mut [u8], frame: &[u8], d: u8, m: u64, n: usize) -> u8
+    requires { ⌜ (n ≤ 64) × Row d n (now v) × Powers d n (now frame) × WideReciprocal d m ⌝ }
     ensures { λ r. ⌜ (r ≡ pairing d n (now (frame .entry)) (now (v .entry))) × (now (v .exit) ≡ shiftRow d n (now (frame .entry)) (now (v .entry))) ⌝ }
 {
     let last = 2 * n;
-    let shift = row::pairing(frame, v, d, n);
+    let shift = row::pairing(frame, v, d, m, n);
     v[last] = modular::add(d, v[last], shift);
     shift
 }
 
 // The same for row i of the tableau.
-fn shift_at(t: &mut [u8], i: usize, frame: &[u8], d: u8, n: usize) -> u8
-    requires { ⌜ (0 < d) × (d ≤ 31) × (n ≤ 64) × (i * (2 * n + 1) + (2 * n + 1) ≤ length (now t)) × Row d n (row n (now t) i) × Powers d n (now frame) ⌝ }
+fn shift_at(t: &mut [u8], i: usize, frame: &[u8], d: u8, m: u64, n: usize) -> u8
+    requires { ⌜ (n ≤ 64) × (i * (2 * n + 1) + (2 * n + 1) ≤ length (now t)) × Row d n (row n (now t) i) × Powers d n (now frame) × WideReciprocal d m ⌝ }
     ensures { λ r. ⌜ (r ≡ shiftAt d n (now (frame .entry)) (now (t .entry)) i) × (now (t .exit) ≡ put (i * (2 * n + 1)) (2 * n + 1) (shiftRow d n (now (frame .entry)) (row n (now (t .entry)) i)) (now (t .entry))) ⌝ }
 {
     let w = 2 * n + 1;
     let s = i * w;
     let e = s + w;
-    shift_row(&mut t[s..e], frame, d, n)
+    shift_row(&mut t[s..e], frame, d, m, n)
 }
 
 // Every row's shift, written and added.
 fn shift_rows(t: &mut [u8], shifts: &mut [u8], frame: &[u8], d: u8, n: usize)
-    requires { ⌜ (0 < d) × (d ≤ 31) × (n ≤ 64) × (2 * n ≤ length (now shifts)) × Tableau d n (now t) × Powers d n (now frame) ⌝ }
+    requires { ⌜ (3 ≤ d) × (d ≤ 31) × (n ≤ 64) × (2 * n ≤ length (now shifts)) × Tableau d n (now t) × Powers d n (now frame) ⌝ }
     ensures { λ _. ⌜ (now (t .exit) ≡ shiftRows d n (now (frame .entry)) (now (t .entry))) × (now (shifts .exit) ≡ tab (shiftAt d n (now (frame .entry)) (now (t .entry))) (2 * n) ++ drop (2 * n) (now (shifts .entry))) ⌝ }
 {
+    let m = modular::wide_reciprocal(d);
     let rows = 2 * n;
     let mut i = 0;
     while i < rows {
-        shifts[i] = shift_at(t, i, frame, d, n);
+        shifts[i] = shift_at(t, i, frame, d, m, n);
         i += 1;
     }
 }
@@ -205,7 +229,7 @@ fn verdict(shifts: &[u8], n: usize) -> usize
 
 // The shifts are added and written, and the frame is written. The verdict.
 fn finish(t: &mut [u8], shifts: &mut [u8], out: &mut [u8], frame: &[u8], d: u8, n: usize) -> usize
-    requires { ⌜ (0 < d) × (d ≤ 31) × (n ≤ 64) × (2 * n ≤ length (now shifts)) × (2 * n ≤ length (now out)) × Tableau d n (now t) × Powers d n (now frame) × (length (now frame) ≡ 2 * n) ⌝ }
+    requires { ⌜ (3 ≤ d) × (d ≤ 31) × (n ≤ 64) × (2 * n ≤ length (now shifts)) × (2 * n ≤ length (now out)) × Tableau d n (now t) × Powers d n (now frame) × (length (now frame) ≡ 2 * n) ⌝ }
     ensures { λ r. ⌜ (now (t .exit) ≡ shiftRows d n (now (frame .entry)) (now (t .entry))) × (now (shifts .exit) ≡ tab (shiftAt d n (now (frame .entry)) (now (t .entry))) (2 * n) ++ drop (2 * n) (now (shifts .entry))) × (now (out .exit) ≡ now (frame .entry) ++ drop (2 * n) (now (out .entry))) × (r ≡ verdictOf d n (now (frame .entry)) (now (t .entry))) ⌝ }
 {
     shift_rows(t, shifts, frame, d, n);
@@ -227,8 +251,8 @@ fn run_in(
     d: u8,
     n: usize,
 ) -> FrameAnswer
-    requires { ⌜ (listed d ≡ true) × (n ≤ 64) × ((i : ℕ) → i < length (now ops) / 4 → goodOperation d n (now ops) i ≡ true) × Accepted d n (operationsOf d n (now ops)) (errorsOf (now errors)) (now choices) × (2 * length (now choices) ≤ length (now results)) × (2 * n ≤ length (now shifts)) × (2 * n ≤ length (now out)) × (now frame ≡ noFrame n) × Tableau d n (now t) ⌝ }
-    ensures { λ r. ⌜ record { number = r .number; place = r .place; verdict = r .verdict; left = record { tableau = now (t .exit); results = now (results .exit); shifts = now (shifts .exit); frame = now (out .exit) } } ≡ frameEnded (measured (operationsOf d n (now (ops .entry))) (length (operationsOf d n (now (ops .entry))))) (record { tableau = now (t .entry); results = now (results .entry); shifts = now (shifts .entry); frame = now (out .entry) }) (frameRun d n (operationsOf d n (now (ops .entry))) (errorsOf (now (errors .entry))) (now (choices .entry)) (record { rows = now (t .entry); results = now (results .entry) }) (now (shifts .entry)) (now (out .entry))) ⌝ }
+    requires { ⌜ Bodies d n (now ops) (now errors) (now choices) × (2 * length (now choices) ≤ length (now results)) × (2 * n ≤ length (now shifts)) × (2 * n ≤ length (now out)) × (now frame ≡ noFrame n) × Valid d n (now t) ⌝ }
+    ensures { λ r. ⌜ record { number = r .number; place = r .place; verdict = r .verdict; left = record { tableau = now (t .exit); results = now (results .exit); shifts = now (shifts .exit); frame = now (out .exit) } } ≡ frameBodies d n (now (ops .entry)) (now (errors .entry)) (now (choices .entry)) (record { tableau = now (t .entry); results = now (results .entry); shifts = now (shifts .entry); frame = now (out .entry) }) ⌝ }
 {
     let carried = carry(t, results, frame, ops, errors, choices, d, n);
     let at = match carried {
@@ -261,8 +285,8 @@ fn run(
     d: u8,
     n: usize,
 ) -> FrameAnswer
-    requires { ⌜ (listed d ≡ true) × (n ≤ 64) × ((i : ℕ) → i < length (now ops) / 4 → goodOperation d n (now ops) i ≡ true) × Accepted d n (operationsOf d n (now ops)) (errorsOf (now errors)) (now choices) × (2 * length (now choices) ≤ length (now results)) × (2 * n ≤ length (now shifts)) × (2 * n ≤ length (now out)) × Tableau d n (now t) ⌝ }
-    ensures { λ r. ⌜ record { number = r .number; place = r .place; verdict = r .verdict; left = record { tableau = now (t .exit); results = now (results .exit); shifts = now (shifts .exit); frame = now (out .exit) } } ≡ frameEnded (measured (operationsOf d n (now (ops .entry))) (length (operationsOf d n (now (ops .entry))))) (record { tableau = now (t .entry); results = now (results .entry); shifts = now (shifts .entry); frame = now (out .entry) }) (frameRun d n (operationsOf d n (now (ops .entry))) (errorsOf (now (errors .entry))) (now (choices .entry)) (record { rows = now (t .entry); results = now (results .entry) }) (now (shifts .entry)) (now (out .entry))) ⌝ }
+    requires { ⌜ Bodies d n (now ops) (now errors) (now choices) × (2 * length (now choices) ≤ length (now results)) × (2 * n ≤ length (now shifts)) × (2 * n ≤ length (now out)) × Valid d n (now t) ⌝ }
+    ensures { λ r. ⌜ record { number = r .number; place = r .place; verdict = r .verdict; left = record { tableau = now (t .exit); results = now (results .exit); shifts = now (shifts .exit); frame = now (out .exit) } } ≡ frameBodies d n (now (ops .entry)) (now (errors .entry)) (now (choices .entry)) (record { tableau = now (t .entry); results = now (results .entry); shifts = now (shifts .entry); frame = now (out .entry) }) ⌝ }
 {
     let mut frame = [0u8; 128];
     let powers = 2 * n;

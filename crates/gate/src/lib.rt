@@ -1,171 +1,185 @@
-// The six gates on a row, on a frame, and on every row of a tableau.
+// The six gates on a row with an even phase, and on every row of a tableau of such rows.
 ghost use mathlib.Core.Path.{_≡_};
 ghost use mathlib.Core.Bool.{true};
-ghost use Prim.Native.Nat.{ℕ, _+_, _*_, _<_, _≤_};
-ghost use lib.ListN.{length};
-ghost use Rattle.modular.specs.Modular.{Reciprocal};
-ghost use Rattle.modular.specs.Dimension.{listed};
-ghost use Rattle.row.specs.Row.{Powers, Row};
-ghost use Rattle.tableau.specs.Tableau.{Tableau, put, row};
-ghost use Rattle.operation.specs.declared.Operation.the-variants.{Fourier, PhaseGate, Sum, Cz, Swap, Multiplier};
+ghost use Prim.Native.Nat.{_+_, _*_, _/_, _%_, _<_, _≤_};
+ghost use lib.ListN.{length, getD};
+ghost use Rattle.modular.specs.Modular.{neg};
+ghost use Rattle.modular.specs.Dimension.{listed, inverse};
+ghost use Rattle.row.specs.Row.{Powers, Row, tab};
+ghost use Rattle.row.specs.Fill.{multipleAt};
+ghost use Rattle.tableau.specs.Tableau.{Tableau, put, row, onRows, every};
+ghost use Rattle.operation.specs.declared.Operation.the-variants.{PhaseGate, Sum, Cz, Multiplier};
 ghost use Rattle.operation.specs.Operation.{allowed};
-ghost use Rattle.operation.specs.Gate.{gatePowers, gateRow, gateFrame, gateRows};
+ghost use Rattle.validity.specs.Validity.{Valid};
+ghost use Rattle.even.specs.Even.{plain};
+ghost use Rattle.operation.specs.Gate.{gatePowers, gateRows};
+ghost use Rattle.gate.specs.Even.{evenGateRow};
+ghost use Rattle.gate.specs.Tables.{factor, fraction, Tables};
 use operation::Operation;
 
-fn fourier_powers(v: &mut [u8], q: usize, d: u8, n: usize)
-    requires { ⌜ (q < n) × Powers d n (now v) ⌝ }
-    ensures { λ _. ⌜ now (v .exit) ≡ gatePowers d n (Fourier q) (now (v .entry)) ⌝ }
+// Sums and multiples are read from two tables that are made once per gate. Some d and u below only say which tables they are.
+fn entry(table: &[u8], k: u8) -> u8
+    requires { ⌜ k < length (now table) ⌝ }
+    ensures { λ r. ⌜ r ≡ getD (now (table .entry)) k 0 ⌝ }
 {
+    table[k as usize]
+}
+
+// x + y, by the rests, which are the multiples of 1
+fn sum_of(rests: &[u8], d: u8, x: u8, y: u8) -> u8
+    requires { ⌜ (now rests ≡ tab (multipleAt d 1) 64) × (d ≤ 31) × (x < d) × (y < d) ⌝ }
+    ensures { λ r. ⌜ r ≡ (x + y) % d ⌝ }
+{
+    rests[x as usize + y as usize]
+}
+
+// x − y, in the same way
+fn difference_of(rests: &[u8], d: u8, x: u8, y: u8) -> u8
+    requires { ⌜ (now rests ≡ tab (multipleAt d 1) 64) × (d ≤ 31) × (x < d) × (y < d) ⌝ }
+    ensures { λ r. ⌜ r ≡ (x + neg d y) % d ⌝ }
+{
+    rests[x as usize + (d - y) as usize]
+}
+
+fn phase_gate_row(v: &mut [u8], q: usize, rests: &[u8], halves: &[u8], d: u8, n: usize)
+    requires { ⌜ (q < n) × (d ≤ 31) × Row d n (now v) × (now rests ≡ tab (multipleAt d 1) 64) × (now halves ≡ tab (multipleAt d (d / 2)) 32) ⌝ }
+    ensures { λ _. ⌜ now (v .exit) ≡ evenGateRow d n (PhaseGate q) (now (v .entry)) ⌝ }
+{
+    let last = 2 * n;
     let a = v[q];
-    let b = v[n + q];
-    v[q] = modular::negative(d, b);
-    v[n + q] = a;
+    let b = sum_of(rests, d, v[n + q], a);
+    let s = sum_of(rests, d, v[last], entry(halves, a));
+    v[n + q] = b;
+    v[last] = s;
 }
 
-fn phase_gate_powers(v: &mut [u8], q: usize, d: u8, n: usize)
-    requires { ⌜ (q < n) × (d ≤ 31) × Powers d n (now v) ⌝ }
-    ensures { λ _. ⌜ now (v .exit) ≡ gatePowers d n (PhaseGate q) (now (v .entry)) ⌝ }
-{
-    v[n + q] = modular::add(d, v[n + q], v[q]);
-}
-
-fn sum_powers(v: &mut [u8], c: usize, t: usize, d: u8, n: usize)
-    requires { ⌜ (c < n) × (t < n) × (d ≤ 31) × Powers d n (now v) ⌝ }
+fn sum_row(v: &mut [u8], c: usize, t: usize, rests: &[u8], d: u8, n: usize)
+    requires { ⌜ (c < n) × (t < n) × (d ≤ 31) × Powers d n (now v) × (now rests ≡ tab (multipleAt d 1) 64) ⌝ }
     ensures { λ _. ⌜ now (v .exit) ≡ gatePowers d n (Sum c t) (now (v .entry)) ⌝ }
 {
-    let x = modular::add(d, v[t], v[c]);
-    let z = modular::subtract(d, v[n + c], v[n + t]);
+    let x = sum_of(rests, d, v[t], v[c]);
+    let z = difference_of(rests, d, v[n + c], v[n + t]);
     v[n + c] = z;
     v[t] = x;
 }
 
-fn cz_powers(v: &mut [u8], c: usize, t: usize, d: u8, n: usize)
-    requires { ⌜ (c < n) × (t < n) × (d ≤ 31) × Powers d n (now v) ⌝ }
+fn cz_row(v: &mut [u8], c: usize, t: usize, rests: &[u8], d: u8, n: usize)
+    requires { ⌜ (c < n) × (t < n) × (d ≤ 31) × Powers d n (now v) × (now rests ≡ tab (multipleAt d 1) 64) ⌝ }
     ensures { λ _. ⌜ now (v .exit) ≡ gatePowers d n (Cz c t) (now (v .entry)) ⌝ }
 {
-    let b = modular::add(d, v[n + c], v[t]);
-    let z = modular::add(d, v[n + t], v[c]);
+    let b = sum_of(rests, d, v[n + c], v[t]);
+    let z = sum_of(rests, d, v[n + t], v[c]);
     v[n + c] = b;
     v[n + t] = z;
 }
 
-fn swap_powers(v: &mut [u8], c: usize, t: usize, n: usize)
-    requires { ⌜ (c < n) × (t < n) × (2 * n ≤ length (now v)) ⌝ }
-    ensures { λ _. ⌜ ((d : ℕ) → now (v .exit) ≡ gatePowers d n (Swap c t) (now (v .entry))) ⌝ }
-{
-    let a = v[c];
-    let x = v[t];
-    let b = v[n + c];
-    let z = v[n + t];
-    v[c] = x;
-    v[n + c] = z;
-    v[t] = a;
-    v[n + t] = b;
-}
-
-fn multiplier_powers(v: &mut [u8], q: usize, u: u8, d: u8, m: u16, n: usize)
-    requires { ⌜ (q < n) × (u < d) × (listed d ≡ true) × Powers d n (now v) × Reciprocal d m ⌝ }
+fn multiplier_row(v: &mut [u8], q: usize, u: u8, times: &[u8], fractions: &[u8], d: u8, n: usize)
+    requires { ⌜ (q < n) × (d ≤ 31) × Powers d n (now v) × (now times ≡ tab (multipleAt d u) 64) × (now fractions ≡ tab (multipleAt d (inverse d u)) 32) ⌝ }
     ensures { λ _. ⌜ now (v .exit) ≡ gatePowers d n (Multiplier q u) (now (v .entry)) ⌝ }
 {
-    let a = v[q];
-    let b = v[n + q];
-    let w = inverse::inverse(d, u);
-    v[q] = modular::mul(d, m, a, u);
-    v[n + q] = modular::mul(d, m, b, w);
+    let a = entry(times, v[q]);
+    let b = entry(fractions, v[n + q]);
+    v[q] = a;
+    v[n + q] = b;
 }
 
-// The powers of a row or a frame after a gate.
-fn gate_powers(v: &mut [u8], operation: Operation, d: u8, m: u16, n: usize)
-    requires { ⌜ (allowed d n operation ≡ true) × (listed d ≡ true) × Powers d n (now v) × Reciprocal d m ⌝ }
-    ensures { λ _. ⌜ now (v .exit) ≡ gatePowers d n operation (now (v .entry)) ⌝ }
+// A gate on a row. All but the phase gate leave the even phase.
+fn gate_row(v: &mut [u8], operation: Operation, times: &[u8], fractions: &[u8], d: u8, n: usize)
+    requires { ⌜ (allowed d n operation ≡ true) × (d ≤ 31) × Row d n (now v) × Tables d operation (now times) (now fractions) ⌝ }
+    ensures { λ _. ⌜ now (v .exit) ≡ evenGateRow d n operation (now (v .entry)) ⌝ }
 {
     match operation {
-        Operation::Fourier { q } => fourier_powers(v, q, d, n),
-        Operation::PhaseGate { q } => phase_gate_powers(v, q, d, n),
-        Operation::Sum { c, t } => sum_powers(v, c, t, d, n),
-        Operation::Cz { c, t } => cz_powers(v, c, t, d, n),
-        Operation::Swap { c, t } => swap_powers(v, c, t, n),
-        Operation::Multiplier { q, u } => multiplier_powers(v, q, u, d, m, n),
-        Operation::Measure { q: _ } => {}
-    }
-}
-
-fn fourier_row(v: &mut [u8], q: usize, d: u8, m: u16, n: usize)
-    requires { ⌜ (q < n) × Row d n (now v) × Reciprocal d m ⌝ }
-    ensures { λ _. ⌜ now (v .exit) ≡ gateRow d n (Fourier q) (now (v .entry)) ⌝ }
-{
-    let last = 2 * n;
-    let r = modular::subtract_product(d, m, v[last], v[q], v[n + q]);
-    fourier_powers(v, q, d, n);
-    v[last] = r;
-}
-
-fn phase_gate_row(v: &mut [u8], q: usize, d: u8, m: u16, n: usize)
-    requires { ⌜ (q < n) × Row d n (now v) × Reciprocal d m ⌝ }
-    ensures { λ _. ⌜ now (v .exit) ≡ gateRow d n (PhaseGate q) (now (v .entry)) ⌝ }
-{
-    let last = 2 * n;
-    let r = modular::add_triangle(d, m, v[last], v[q]);
-    phase_gate_powers(v, q, d, n);
-    v[last] = r;
-}
-
-fn cz_row(v: &mut [u8], c: usize, t: usize, d: u8, m: u16, n: usize)
-    requires { ⌜ (c < n) × (t < n) × Row d n (now v) × Reciprocal d m ⌝ }
-    ensures { λ _. ⌜ now (v .exit) ≡ gateRow d n (Cz c t) (now (v .entry)) ⌝ }
-{
-    let last = 2 * n;
-    let r = modular::add_product(d, m, v[last], v[c], v[t]);
-    cz_powers(v, c, t, d, n);
-    v[last] = r;
-}
-
-// A gate on a row. SUM, swap and multiplier leave the phase.
-fn gate_row(v: &mut [u8], operation: Operation, d: u8, m: u16, n: usize)
-    requires { ⌜ (allowed d n operation ≡ true) × (listed d ≡ true) × Row d n (now v) × Reciprocal d m ⌝ }
-    ensures { λ _. ⌜ now (v .exit) ≡ gateRow d n operation (now (v .entry)) ⌝ }
-{
-    match operation {
-        Operation::Fourier { q } => fourier_row(v, q, d, m, n),
-        Operation::PhaseGate { q } => phase_gate_row(v, q, d, m, n),
-        Operation::Sum { c, t } => sum_powers(v, c, t, d, n),
-        Operation::Cz { c, t } => cz_row(v, c, t, d, m, n),
-        Operation::Swap { c, t } => swap_powers(v, c, t, n),
-        Operation::Multiplier { q, u } => multiplier_powers(v, q, u, d, m, n),
+        Operation::Fourier { q } => frames::fourier_powers(v, q, d, n),
+        Operation::PhaseGate { q } => phase_gate_row(v, q, times, fractions, d, n),
+        Operation::Sum { c, t } => sum_row(v, c, t, times, d, n),
+        Operation::Cz { c, t } => cz_row(v, c, t, times, d, n),
+        Operation::Swap { c, t } => frames::swap_powers(v, c, t, n),
+        Operation::Multiplier { q, u } => multiplier_row(v, q, u, times, fractions, d, n),
         Operation::Measure { q: _ } => {}
     }
 }
 
 // The gate on row i of a tableau.
-fn gate_at(t: &mut [u8], i: usize, operation: Operation, d: u8, m: u16, n: usize)
-    requires { ⌜ (i * (2 * n + 1) + (2 * n + 1) ≤ length (now t)) × (allowed d n operation ≡ true) × (listed d ≡ true) × Row d n (row n (now t) i) × Reciprocal d m ⌝ }
-    ensures { λ _. ⌜ now (t .exit) ≡ put (i * (2 * n + 1)) (2 * n + 1) (gateRow d n operation (row n (now (t .entry)) i)) (now (t .entry)) ⌝ }
+fn gate_at(
+    t: &mut [u8],
+    i: usize,
+    operation: Operation,
+    times: &[u8],
+    fractions: &[u8],
+    d: u8,
+    n: usize,
+)
+    requires { ⌜ (i * (2 * n + 1) + (2 * n + 1) ≤ length (now t)) × (allowed d n operation ≡ true) × (d ≤ 31) × Row d n (row n (now t) i) × Tables d operation (now times) (now fractions) ⌝ }
+    ensures { λ _. ⌜ now (t .exit) ≡ put (i * (2 * n + 1)) (2 * n + 1) (evenGateRow d n operation (row n (now (t .entry)) i)) (now (t .entry)) ⌝ }
 {
     let w = 2 * n + 1;
     let s = i * w;
     let e = s + w;
-    gate_row(&mut t[s..e], operation, d, m, n);
+    gate_row(&mut t[s..e], operation, times, fractions, d, n);
 }
 
-// The gate on every row.
-pub fn gate_rows(t: &mut [u8], operation: Operation, d: u8, n: usize)
-    requires { ⌜ (listed d ≡ true) × (n ≤ 64) × (allowed d n operation ≡ true) × Tableau d n (now t) ⌝ }
-    ensures { λ _. ⌜ (now (t .exit) ≡ gateRows d n operation (now (t .entry))) × Tableau d n (now (t .exit)) ⌝ }
+// The gate on every row, by its tables.
+fn gate_all(t: &mut [u8], operation: Operation, times: &[u8], fractions: &[u8], d: u8, n: usize)
+    requires { ⌜ (d ≤ 31) × (n ≤ 64) × (allowed d n operation ≡ true) × Tableau d n (now t) × Tables d operation (now times) (now fractions) ⌝ }
+    ensures { λ _. ⌜ now (t .exit) ≡ onRows n (every (evenGateRow d n operation)) (now (t .entry)) ⌝ }
 {
-    let m = modular::reciprocal(d);
     let rows = 2 * n;
     let mut i = 0;
     while i < rows {
-        gate_at(t, i, operation, d, m, n);
+        gate_at(t, i, operation, times, fractions, d, n);
         i += 1;
     }
 }
 
-// The gate on a frame.
-pub fn gate_frame(frame: &mut [u8], operation: Operation, d: u8, n: usize)
-    requires { ⌜ (listed d ≡ true) × (allowed d n operation ≡ true) × Powers d n (now frame) ⌝ }
-    ensures { λ _. ⌜ (now (frame .exit) ≡ gateFrame d n operation (now (frame .entry))) × Powers d n (now (frame .exit)) ⌝ }
+// The two numbers whose multiples a gate reads, 0 where it reads none.
+fn factor_of(operation: Operation) -> u8
+    ensures { λ r. ⌜ r ≡ factor operation ⌝ }
 {
-    let m = modular::reciprocal(d);
-    gate_powers(frame, operation, d, m, n);
+    match operation {
+        Operation::Fourier { q: _ } => 0,
+        Operation::PhaseGate { q: _ } => 1,
+        Operation::Sum { c: _, t: _ } => 1,
+        Operation::Cz { c: _, t: _ } => 1,
+        Operation::Swap { c: _, t: _ } => 0,
+        Operation::Multiplier { q: _, u } => u,
+        Operation::Measure { q: _ } => 0,
+    }
+}
+
+fn fraction_of(operation: Operation, d: u8) -> u8
+    requires { ⌜ (listed d ≡ true) × (factor operation < d) ⌝ }
+    ensures { λ r. ⌜ r ≡ fraction d operation ⌝ }
+{
+    match operation {
+        Operation::Fourier { q: _ } => 0,
+        Operation::PhaseGate { q: _ } => d / 2,
+        Operation::Sum { c: _, t: _ } => 0,
+        Operation::Cz { c: _, t: _ } => 0,
+        Operation::Swap { c: _, t: _ } => 0,
+        Operation::Multiplier { q: _, u } => inverse::inverse(d, u),
+        Operation::Measure { q: _ } => 0,
+    }
+}
+
+// The multiples of x in place of zeros, which are those of 0 already.
+fn make_table(table: &mut [u8], x: u8, d: u8)
+    requires { ⌜ (3 ≤ d) × (d ≤ 31) × (x ≤ d) × (length (now table) ≤ 64) × (now table ≡ tab (multipleAt d 0) (length (now table))) ⌝ }
+    ensures { λ _. ⌜ now (table .exit) ≡ tab (multipleAt d x) (length (now (table .entry))) ⌝ }
+{
+    if x != 0 {
+        let m = modular::reciprocal(d);
+        row::multiples(table, x, d, m);
+    }
+}
+
+// The gate on every row, with room for its tables.
+pub fn gate_rows(t: &mut [u8], operation: Operation, d: u8, n: usize)
+    requires { ⌜ (listed d ≡ true) × (n ≤ 64) × (allowed d n operation ≡ true) × Valid d n (now t) ⌝ }
+    ensures { λ _. ⌜ (plain d n (now (t .exit)) ≡ gateRows d n operation (plain d n (now (t .entry)))) × Valid d n (now (t .exit)) ⌝ }
+{
+    let mut times = [0u8; 64];
+    let mut fractions = [0u8; 32];
+    make_table(&mut times, factor_of(operation), d);
+    make_table(&mut fractions, fraction_of(operation, d), d);
+    gate_all(t, operation, &times, &fractions, d, n);
 }

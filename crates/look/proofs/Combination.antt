@@ -1,15 +1,17 @@
--- A product of powers of stabilizers is a row, and one more stabilizer is one more factor.
+-- A product of powers of stabilizers is a row, and hangs on the exponents of those stabilizers alone; the pivot on their X powers.
 -- Assumes nothing.
-use mathlib.Core.Path.{_≡_, ap, _∙_}
+use mathlib.Core.Path.{_≡_, refl, ap, ap₂}
 use mathlib.Core.List.{List}
 use Prim.Native.Nat.{ℕ, zero, suc, _+_, _<_}
-use native.Mathlib.Numerals.{add-one}
+use native.Mathlib.Omega.{arith}
+use lib.Dec.{eqb}
 use Rattle.row.specs.Row.{Row, product, power}
 use Rattle.row.proofs.Fill.{row-below}
 use Rattle.row.proofs.Laws.{product-row}
 use Rattle.weyl.specs.Scalar.{none, scalar}
+use Rattle.search.proofs.Search.{first-same}
 use Rattle.tableau.specs.Tableau.{row}
-use Rattle.look.specs.Look.{combination}
+use Rattle.look.specs.Look.{stabilizerPower, commutes, pivotOf, combination}
 
 module _ (d n : ℕ) (t : List ℕ) (h : ℕ → ℕ) where
   pub combination-row : 0 < d → (k : ℕ) → Row d n (combination d n t h k)
@@ -17,10 +19,15 @@ module _ (d n : ℕ) (t : List ℕ) (h : ℕ → ℕ) where
   combination-row p zero = row-below n none 0 d (λ i l. p) p
   combination-row p (suc k) = product-row d n (combination d n t h k) (power d n (h k) (row n t (n + k))) p
 
-  pub combination-more :
-      (k : ℕ) (v u : List ℕ) →
-      v ≡ combination d n t h k →
-      u ≡ product d n v (power d n (h k) (row n t (n + k))) →
-      u ≡ combination d n t h (k + 1)
-  unfolding combination
-  combination-more k v u e g = g ∙ rw (add-one k) (ap (λ (x : List ℕ). product d n x (power d n (h k) (row n t (n + k)))) e)
+pub combination-same : (d n : ℕ) (t : List ℕ) (g h : ℕ → ℕ) (k : ℕ) → ((i : ℕ) → i < k → g i ≡ h i) → combination d n t g k ≡ combination d n t h k
+unfolding combination
+combination-same d n t g h zero e = refl
+combination-same d n t g h (suc k) e =
+    ap₂ (λ (v : List ℕ) (x : ℕ). product d n v (power d n x (row n t (n + k))))
+    (combination-same d n t g h k (λ i l. e i (omega arith)))
+    (e k (omega arith))
+
+-- The pivot depends on the stabilizers' X powers alone.
+pub pivot-same : (n : ℕ) (t u : List ℕ) (q : ℕ) → ((i : ℕ) → i < n → stabilizerPower n t q i ≡ stabilizerPower n u q i) → pivotOf n t q ≡ pivotOf n u q
+unfolding pivotOf
+pivot-same n t u q h = first-same (commutes n t q) (commutes n u q) n (λ i l. ap (λ (x : ℕ). eqb x 0) (h i l))

@@ -1,1 +1,3 @@
 pub mod Look
+pub mod Even
+pub mod Sums

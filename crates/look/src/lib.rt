@@ -1,12 +1,16 @@
 // The look at a qudit: what its measurement would be.
 ghost use mathlib.Core.Path.{_≡_};
-ghost use Prim.Native.Nat.{_+_, _*_, _<_, _≤_};
+ghost use mathlib.Core.Bool.{true};
+ghost use Prim.Native.Nat.{_+_, _*_, _/_, _%_, _<_, _≤_};
 ghost use lib.ListN.{length};
-ghost use Rattle.modular.specs.Modular.{Reciprocal};
-ghost use Rattle.row.specs.Row.{Row, product, power};
-ghost use Rattle.weyl.specs.Scalar.{scalar};
-ghost use Rattle.tableau.specs.Tableau.{Tableau, row};
-ghost use Rattle.look.specs.Look.{destabilizerPower, pivotOf, weighted, isZ, outcomeOf, look};
+ghost use Rattle.modular.specs.Dimension.{listed};
+ghost use Rattle.row.specs.Row.{Row, tab};
+ghost use Rattle.tableau.specs.Tableau.{Tableau};
+ghost use Rattle.validity.specs.Validity.{Valid};
+ghost use Rattle.even.specs.Even.{plain};
+ghost use Rattle.look.specs.Look.{destabilizerPower, pivotOf, isZ, outcomeOf, look};
+ghost use Rattle.look.specs.Even.{evenCombination};
+ghost use Rattle.look.specs.Sums.{weighed, Sums, gainAt, restAt};
 use search::Place;
 
 // Each measurement is either free, with its pivot stabilizer, or certain, with its outcome.
@@ -38,20 +42,26 @@ fn pivot_of(t: &[u8], q: usize, n: usize) -> Place
     Place::Nowhere
 }
 
-// v becomes v times s to the power h; z is room for that power.
-fn multiply(v: &mut [u8], z: &mut [u8], s: &[u8], h: u8, d: u8, m: u16, n: usize)
-    requires { ⌜ (h < d) × (n ≤ 64) × Row d n (now v) × (length (now z) ≡ 2 * n + 1) × Row d n (now s) × Reciprocal d m ⌝ }
-    ensures { λ _. ⌜ (now (v .exit) ≡ product d n (now (v .entry)) (power d n h (now (s .entry)))) × (length (now (z .exit)) ≡ 2 * n + 1) ⌝ }
+fn wide(x: u8) -> u16
+    ensures { λ r. ⌜ r ≡ x ⌝ }
 {
-    let own = row::dot(s, s, n);
-    row::power(z, s, own, h, d, m, n);
-    row::product(v, z, d, n);
+    x as u16
 }
 
-// v becomes v times stabilizer i to the power a_q of destabilizer i. A power 0 changes nothing and is passed over.
-fn weigh(v: &mut [u8], z: &mut [u8], t: &[u8], i: usize, q: usize, d: u8, m: u16, n: usize)
-    requires { ⌜ (i < n) × (q < n) × (n ≤ 64) × Row d n (now v) × (length (now z) ≡ 2 * n + 1) × Tableau d n (now t) × Reciprocal d m ⌝ }
-    ensures { λ _. ⌜ (now (v .exit) ≡ product d n (now (v .entry)) (power d n (destabilizerPower n (now (t .entry)) q i) (row n (now (t .entry)) (n + i)))) × (length (now (z .exit)) ≡ 2 * n + 1) ⌝ }
+// Every sum gains h times its byte of v.
+fn weigh(sums: &mut [u16], v: &[u8], h: u8, n: usize)
+    requires { ⌜ (h < 31) × Sums n (now sums) × Row 31 n (now v) ⌝ }
+    ensures { λ _. ⌜ now (sums .exit) ≡ tab (gainAt h (now (v .entry)) (now (sums .entry))) (2 * n + 1) ⌝ }
+{
+    for k in 0..2 * n + 1 {
+        sums[k] += wide(h) * wide(v[k]);
+    }
+}
+
+// The sums gain stabilizer i, a_q of destabilizer i times. Where that is 0 nothing changes, and the row is passed over.
+fn weigh_at(sums: &mut [u16], t: &[u8], i: usize, q: usize, n: usize)
+    requires { ⌜ (i < n) × (q < n) × (n ≤ 64) × Tableau 31 n (now t) × (now sums ≡ weighed n (now t) (destabilizerPower n (now t) q) i) ⌝ }
+    ensures { λ _. ⌜ now (sums .exit) ≡ weighed n (now (t .entry)) (destabilizerPower n (now (t .entry)) q) (i + 1) ⌝ }
 {
     let w = 2 * n + 1;
     let at = i * w + q;
@@ -59,20 +69,42 @@ fn weigh(v: &mut [u8], z: &mut [u8], t: &[u8], i: usize, q: usize, d: u8, m: u16
     if h != 0 {
         let s = (n + i) * w;
         let e = s + w;
-        multiply(v, z, &t[s..e], h, d, m, n);
+        weigh(sums, &t[s..e], h, n);
     }
 }
 
-// v, which begins as ω^0, becomes the weighted product of the stabilizers.
-fn weigh_all(v: &mut [u8], z: &mut [u8], t: &[u8], q: usize, d: u8, n: usize)
-    requires { ⌜ (3 ≤ d) × (d ≤ 31) × (q < n) × (n ≤ 64) × (now v ≡ scalar n 0) × (length (now z) ≡ 2 * n + 1) × Tableau d n (now t) ⌝ }
-    ensures { λ _. ⌜ (now (v .exit) ≡ weighted d n (now (t .entry)) q) × Row d n (now (v .exit)) ⌝ }
+// The sums, which begin as 0, gain every stabilizer.
+fn weigh_all(sums: &mut [u16], t: &[u8], q: usize, n: usize)
+    requires { ⌜ (q < n) × (n ≤ 64) × Tableau 31 n (now t) × (now sums ≡ weighed n (now t) (destabilizerPower n (now t) q) 0) ⌝ }
+    ensures { λ _. ⌜ now (sums .exit) ≡ weighed n (now (t .entry)) (destabilizerPower n (now (t .entry)) q) n ⌝ }
 {
-    let m = modular::reciprocal(d);
     let mut i = 0;
     while i < n {
-        weigh(v, z, t, i, q, d, m, n);
+        weigh_at(sums, t, i, q, n);
         i += 1;
+    }
+}
+
+// v's rest. The quotient is at most 1 too low, which the smaller of x and x − d, wrapped, makes good.
+fn rest(v: u16, d: u8, m: u16) -> u8
+    requires { ⌜ (3 ≤ d) × (d ≤ 31) × (m ≡ 65536 / d) ⌝ }
+    ensures { λ r. ⌜ r ≡ v % d ⌝ }
+{
+    let q = ((v as u32) * (m as u32) / 65536) as u16;
+    let x = v - q * (d as u16);
+    let y = std::num::wrapping_sub_u16(x, d as u16);
+    let z = if y < x { y } else { x };
+    z as u8
+}
+
+// v becomes the rests of the sums.
+fn rests(v: &mut [u8], sums: &[u16], d: u8, n: usize)
+    requires { ⌜ (3 ≤ d) × (d ≤ 31) × (length (now v) ≡ 2 * n + 1) × (length (now sums) ≡ 2 * n + 1) ⌝ }
+    ensures { λ _. ⌜ now (v .exit) ≡ tab (restAt d (now (sums .entry))) (2 * n + 1) ⌝ }
+{
+    let m = (65536 / (d as u32)) as u16;
+    for k in 0..2 * n + 1 {
+        v[k] = rest(sums[k], d, m);
     }
 }
 
@@ -107,30 +139,31 @@ fn outcome_of(v: &[u8], q: usize, d: u8, n: usize) -> Looked
     })
 }
 
-// The same of the weighted product, which is made in v; z is room for a power.
-fn certain_in(t: &[u8], v: &mut [u8], z: &mut [u8], q: usize, d: u8, n: usize) -> Looked
-    requires { ⌜ (3 ≤ d) × (d ≤ 31) × (q < n) × (n ≤ 64) × (now v ≡ scalar n 0) × (length (now z) ≡ 2 * n + 1) × Tableau d n (now t) ⌝ }
-    ensures { λ r. ⌜ r ≡ outcomeOf d n q (weighted d n (now (t .entry)) q) ⌝ }
+// The same of the weighted product, which is made in v from the sums.
+fn certain_in(t: &[u8], sums: &mut [u16], v: &mut [u8], q: usize, d: u8, n: usize) -> Looked
+    requires { ⌜ (3 ≤ d) × (d ≤ 31) × (q < n) × (n ≤ 64) × Tableau d n (now t) × (now sums ≡ weighed n (now t) (destabilizerPower n (now t) q) 0) × (length (now v) ≡ 2 * n + 1) ⌝ }
+    ensures { λ r. ⌜ r ≡ outcomeOf d n q (evenCombination d n (now (t .entry)) (destabilizerPower n (now (t .entry)) q) n) ⌝ }
 {
-    weigh_all(v, z, t, q, d, n);
+    weigh_all(sums, t, q, n);
+    rests(v, sums, d, n);
     outcome_of(v, q, d, n)
 }
 
 // The same, with room for the longest row.
 fn certain(t: &[u8], q: usize, d: u8, n: usize) -> Looked
     requires { ⌜ (3 ≤ d) × (d ≤ 31) × (q < n) × (n ≤ 64) × Tableau d n (now t) ⌝ }
-    ensures { λ r. ⌜ r ≡ outcomeOf d n q (weighted d n (now (t .entry)) q) ⌝ }
+    ensures { λ r. ⌜ r ≡ outcomeOf d n q (evenCombination d n (now (t .entry)) (destabilizerPower n (now (t .entry)) q) n) ⌝ }
 {
+    let mut sums = [0u16; 129];
     let mut v = [0u8; 129];
-    let mut z = [0u8; 129];
     let w = 2 * n + 1;
-    certain_in(t, &mut v[..w], &mut z[..w], q, d, n)
+    certain_in(t, &mut sums[..w], &mut v[..w], q, d, n)
 }
 
-// The look at qudit q.
+// The look at qudit q of the tableau that t, with even phases, stands for.
 pub fn look_at(t: &[u8], q: usize, d: u8, n: usize) -> Looked
-    requires { ⌜ (3 ≤ d) × (d ≤ 31) × (q < n) × (n ≤ 64) × Tableau d n (now t) ⌝ }
-    ensures { λ r. ⌜ r ≡ look d n (now (t .entry)) q ⌝ }
+    requires { ⌜ (listed d ≡ true) × (q < n) × (n ≤ 64) × Valid d n (now t) ⌝ }
+    ensures { λ r. ⌜ r ≡ look d n (plain d n (now (t .entry))) q ⌝ }
 {
     if let Place::At(pivot) = pivot_of(t, q, n) {
         return Looked::Seen(Look::Free { pivot });

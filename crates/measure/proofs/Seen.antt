@@ -1,19 +1,28 @@
--- What is seen fits: the pivot of a free measurement is one of the n stabilizers, and a certain outcome is below d.
+-- What is seen fits: the pivot of a free measurement is one of the n stabilizers, and a certain outcome is below d. A free
+-- measurement by a seen pivot leaves a valid tableau.
 -- Assumes nothing.
 use mathlib.Core.Path.{_≡_, refl, subst}
 use mathlib.Core.Bool.{Bool, true, false, cond}
 use mathlib.Core.List.{List}
 use Prim.Native.Nat.{ℕ, _<_}
 use Rattle.modular.specs.Modular.{neg}
+use Rattle.modular.specs.Dimension.{Dimension}
 use Rattle.modular.proofs.Residue.{neg-less}
 use Rattle.row.specs.Row.{phaseOf}
 use Rattle.search.specs.declared.Place.{Place}
 use Rattle.search.specs.declared.Place.the-variants.{At, Nowhere}
 use Rattle.search.proofs.Search.{found-fails}
+use Rattle.tableau.specs.Tableau.{Tableau}
+use Rattle.validity.specs.Validity.{Valid}
+use Rattle.validity.proofs.Exactly.{valid-tableau}
+use Rattle.even.specs.Even.{plain}
+use Rattle.even.proofs.Plain.{valid-as-plain}
 use Rattle.look.specs.declared.Look.the-variants.{Free, Certain}
 use Rattle.look.specs.declared.Looked.{Looked}
 use Rattle.look.specs.declared.Looked.the-variants.{Seen, NotZ}
 use Rattle.look.specs.Look.{commutes, pivotOf, weighted, isZ, outcomeOf, lookBy, look}
+use Rattle.collapse.specs.Collapse.{collapse}
+use Rattle.measurement.proofs.Kept.{collapse-keeps-valid}
 
 abbrev pub Fits : ℕ → ℕ → Looked → Type 0
 Fits d n (Seen (Free k)) = k < n
@@ -35,3 +44,12 @@ look-fits d n t q h e = subst (Fits d n) e (by (pivotOf n t q) refl)
     by : (p : Place) → pivotOf n t q ≡ p → Fits d n (lookBy d n t q p)
     by (At k) e = found-fails (commutes n t q) n k e .0
     by Nowhere e = outcome-fits d n q (weighted d n t q) h
+
+pub collapse-valid : {d n q k m : ℕ} {t' : List ℕ} → Dimension d → (t : List ℕ) → Valid d n t → q < n → m < d
+    → look d n (plain d n t) q ≡ Seen (Free k)
+    → plain d n t' ≡ collapse d n q k m (plain d n t)
+    → Tableau d n t'
+    → Valid d n t'
+collapse-valid {d} {n} {q} {k} {m} {t'} dim t ok lq lm seen e bytes =
+    let old = valid-as-plain d n dim t (valid-tableau d n t ok) .0 ok in
+    valid-as-plain d n dim t' bytes .1 (rw e (collapse-keeps-valid d n dim (plain d n t) old q k m lq lm seen))

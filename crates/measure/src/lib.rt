@@ -4,7 +4,8 @@ ghost use mathlib.Core.Bool.{true};
 ghost use Prim.Native.Nat.{_+_, _*_, _<_, _≤_};
 ghost use lib.ListN.{length};
 ghost use Rattle.modular.specs.Dimension.{listed};
-ghost use Rattle.tableau.specs.Tableau.{Tableau};
+ghost use Rattle.validity.specs.Validity.{Valid};
+ghost use Rattle.even.specs.Even.{plain};
 ghost use Rattle.look.specs.Look.{look};
 ghost use Rattle.run.specs.Run.{noted};
 ghost use Rattle.measure.specs.Measure.{measureBy};
@@ -31,8 +32,8 @@ pub fn measure(
     d: u8,
     n: usize,
 ) -> bool
-    requires { ⌜ (listed d ≡ true) × (n ≤ 64) × (q < n) × (choice < d) × (x < d) × (2 * j + 1 < length (now results)) × Tableau d n (now t) ⌝ }
-    ensures { λ r. ⌜ (record { seen = r; rows = now (t .exit); results = now (results .exit) } ≡ measureBy d n q choice x j (now (t .entry)) (now (results .entry)) (look d n (now (t .entry)) q)) × Tableau d n (now (t .exit)) ⌝ }
+    requires { ⌜ (listed d ≡ true) × (n ≤ 64) × (q < n) × (choice < d) × (x < d) × (2 * j + 1 < length (now results)) × Valid d n (now t) ⌝ }
+    ensures { λ r. ⌜ (record { seen = r; rows = plain d n (now (t .exit)); results = now (results .exit) } ≡ measureBy d n q choice x j (plain d n (now (t .entry))) (now (results .entry)) (look d n (plain d n (now (t .entry))) q)) × Valid d n (now (t .exit)) ⌝ }
 {
     let Looked::Seen(seen) = look::look_at(t, q, d, n) else {
         return false;

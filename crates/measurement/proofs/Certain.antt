@@ -31,7 +31,7 @@ z-power : (n q r s : ℕ) → s < 2 * n → getD (zWith n q r) s 0 ≡ unit (n +
 unfolding zWith
 z-power n q r = row-power n (unit (n + q)) r
 
-z-phase : (n q r : ℕ) → phaseOf n (zWith n q r) ≡ r
+pub z-phase : (n q r : ℕ) → phaseOf n (zWith n q r) ≡ r
 unfolding zWith
 z-phase n q r = row-phase n (unit (n + q)) r
 

@@ -1,10 +1,10 @@
 -- Laws of the rest modulo d: a rest found by one test, negatives, how large a product is, and triangles.
 -- Assumes nothing.
 use mathlib.Core.Path.{_≡_, sym, ap, _∙_}
-use Prim.Native.Nat.{ℕ, zero, suc, _+_, _-_, _*_, _/_, _%_, _<_, _≤_}
-use native.Mathlib.Nat.{sub-zero, mod-eq-of-lt, mod-self, mod-lt, add-mod-mod, add-mul-mod-self-left, div-add-mod, mul-le-mul, mul-sub, mul-one}
+use Prim.Native.Nat.{ℕ, _+_, _-_, _*_, _/_, _%_, _<_, _≤_}
+use native.Mathlib.Nat.{sub-zero, mod-eq-of-lt, mod-self, mod-lt, add-mod-mod, add-mul-mod-self-left, div-add-mod, mul-le-mul}
 use native.Mathlib.Omega.{arith}
-use Rattle.modular.specs.Modular.{neg, tri}
+use Rattle.modular.specs.Modular.{neg}
 
 -- a rest is below d
 pub rest-less : {x d : ℕ} (y : ℕ) → 0 < d → x ≡ y % d → x < d
@@ -56,11 +56,3 @@ product-most {d} {x} {y} h a b =
     let p : x ≤ 31 = omega arith in
     let q : y ≤ 30 = omega arith in
     mul-le-mul p q
-
--- h(h − 1)/2 as the code makes it; its h·h − h does not pass below 0
-pub tri-made : (h : ℕ) → (h * h - h) / 2 ≡ tri h
-tri-made h = ap (λ (x : ℕ). x / 2) (sym (mul-sub h h 1 ∙ ap (λ (x : ℕ). h * h - x) (mul-one h)))
-
-pub square-least : (h : ℕ) → h ≤ h * h
-square-least zero = omega arith
-square-least (suc k) = omega arith

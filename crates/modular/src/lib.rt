@@ -1,7 +1,7 @@
 // Arithmetic modulo d on bytes below d, with no division but in the reciprocal.
 ghost use mathlib.Core.Path.{_≡_};
 ghost use Prim.Native.Nat.{_+_, _-_, _*_, _%_, _<_, _≤_};
-ghost use Rattle.modular.specs.Modular.{neg, tri, Reciprocal};
+ghost use Rattle.modular.specs.Modular.{neg, Reciprocal, WideReciprocal};
 ghost use Rattle.modular.specs.Dimension.{listed};
 
 // x + y. The smaller of v and v − d, wrapped, is the rest; it compiles to one unsigned minimum.
@@ -48,37 +48,28 @@ pub fn reduce(v: u16, d: u8, m: u16) -> u8
     (v - q * (d as u16)) as u8
 }
 
+pub fn wide_reciprocal(d: u8) -> u64
+    requires { ⌜ (3 ≤ d) × (d ≤ 31) ⌝ }
+    ensures { λ m. ⌜ WideReciprocal d m ⌝ }
+{
+    4294967296 / (d as u64) + 1
+}
+
+// The rest of a larger v.
+pub fn reduce_wide(v: u32, d: u8, m: u64) -> u8
+    requires { ⌜ (v < 4194304) × WideReciprocal d m ⌝ }
+    ensures { λ r. ⌜ r ≡ v % d ⌝ }
+{
+    let q = ((v as u64) * m / 4294967296) as u32;
+    (v - q * (d as u32)) as u8
+}
+
 // x·y
 pub fn mul(d: u8, m: u16, x: u8, y: u8) -> u8
     requires { ⌜ (x < d) × (y < d) × Reciprocal d m ⌝ }
     ensures { λ r. ⌜ r ≡ (x * y) % d ⌝ }
 {
     reduce((x as u16) * (y as u16), d, m)
-}
-
-// r + x·y
-pub fn add_product(d: u8, m: u16, r: u8, x: u8, y: u8) -> u8
-    requires { ⌜ (r < d) × (x ≤ d) × (y < d) × Reciprocal d m ⌝ }
-    ensures { λ s. ⌜ s ≡ (r + x * y) % d ⌝ }
-{
-    reduce((r as u16) + (x as u16) * (y as u16), d, m)
-}
-
-// r − x·y
-pub fn subtract_product(d: u8, m: u16, r: u8, x: u8, y: u8) -> u8
-    requires { ⌜ (r < d) × (x < d) × (y < d) × Reciprocal d m ⌝ }
-    ensures { λ s. ⌜ s ≡ (r + neg d (x * y)) % d ⌝ }
-{
-    add_product(d, m, r, d - x, y)
-}
-
-// r + x(x − 1)/2
-pub fn add_triangle(d: u8, m: u16, r: u8, x: u8) -> u8
-    requires { ⌜ (r < d) × (x < d) × Reciprocal d m ⌝ }
-    ensures { λ s. ⌜ s ≡ (r + tri x) % d ⌝ }
-{
-    let e = x as u16;
-    reduce((r as u16) + (e * e - e) / 2, d, m)
 }
 
 // r + x·y − p·q

@@ -7,10 +7,10 @@ use native.Mathlib.Nat.{mod-lt}
 use lib.ListN.{length, length-set}
 use Rattle.row.specs.Row.{Powers, Row}
 use Rattle.row.proofs.Laws.{powers-of}
-use Rattle.tableau.specs.Tableau.{Tableau, row, every}
-use Rattle.tableau.proofs.Parts.{Keeps, tableau-row, on-tableau}
+use Rattle.tableau.specs.Tableau.{every}
+use Rattle.tableau.proofs.Parts.{Keeps}
 use Rattle.operation.specs.declared.WeylError.{WeylError}
-use Rattle.operation.specs.Error.{errorRow, errorRows, errorFrame}
+use Rattle.operation.specs.Error.{errorRow, errorFrame}
 use Rattle.operation.proofs.Stores.{powers-store, row-phase}
 
 module _ (d n : ℕ) (e : WeylError) where
@@ -28,10 +28,6 @@ module _ (d n : ℕ) (e : WeylError) where
   pub error-row : (v : List ℕ) → 0 < d → Row d n v → Row d n (errorRow d n e v)
   unfolding errorRow
   error-row v low r = row-phase (powers-of r) (r .len) (mod-lt _ low)
-
-  pub error-tableau : (t : List ℕ) → 0 < d → Tableau d n t → Tableau d n (errorRows d n e t)
-  error-tableau t low h =
-      on-tableau d n (every (errorRow d n e)) error-keeps t h (λ i l. error-row (row n t i) low (tableau-row d n t h i l))
 
   pub error-powers : (F : List ℕ) → 0 < d → Powers d n F → Powers d n (errorFrame d n e F)
   unfolding errorFrame

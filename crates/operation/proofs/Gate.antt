@@ -11,12 +11,12 @@ use lib.Seq.{set-getD}
 use borrow.Author.Tests.{ltb-true}
 use Rattle.row.specs.Row.{phaseOf, Powers, Row}
 use Rattle.row.proofs.Laws.{powers-of}
-use Rattle.tableau.specs.Tableau.{Tableau, row, every}
-use Rattle.tableau.proofs.Parts.{Keeps, tableau-row, on-tableau}
+use Rattle.tableau.specs.Tableau.{every}
+use Rattle.tableau.proofs.Parts.{Keeps}
 use Rattle.operation.specs.declared.Operation.{Operation}
 use Rattle.operation.specs.declared.Operation.the-variants.{Fourier, PhaseGate, Sum, Cz, Swap, Multiplier, Measure}
 use Rattle.operation.specs.Operation.{allowed}
-use Rattle.operation.specs.Gate.{gatePowers, gatePhase, gateRow, gateRows}
+use Rattle.operation.specs.Gate.{gatePowers, gatePhase, gateRow}
 use Rattle.operation.proofs.Operands.{distinct-facts, multiplier-facts}
 use Rattle.operation.proofs.Stores.{Past, past-same, past-store, powers-store, row-phase}
 
@@ -89,8 +89,3 @@ module _ (d n : ℕ) where
     pub gate-row : (op : Operation) (v : List ℕ) → allowed d n op ≡ true → Row d n v → Row d n (gateRow d n op v)
     unfolding gateRow
     gate-row op v h r = row-phase (gate-powers op v h (powers-of r)) (gate-powers-length op v ∙ r .len) (mod-lt _ low)
-
-    pub gate-tableau : (op : Operation) (t : List ℕ) → allowed d n op ≡ true → Tableau d n t → Tableau d n (gateRows d n op t)
-    gate-tableau op t h k =
-        on-tableau d n (every (gateRow d n op)) (gate-keeps op) t k
-        (λ i l. gate-row op (row n t i) h (tableau-row d n t k i l))

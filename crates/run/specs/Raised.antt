@@ -1,7 +1,7 @@
 -- The second book of demand 3. The first book's operations and errors alone settle the frame.
 use mathlib.Core.List.{List, [], _∷_, _++_}
-use Prim.Native.Nat.{ℕ, zero, suc, _+_, _*_}
-use lib.ListN.{length, getD}
+use Prim.Native.Nat.{ℕ, zero, suc, _+_}
+use lib.ListN.{length}
 use Rattle.row.specs.Row.{xOf, tab, sumAt}
 use Rattle.operation.specs.declared.Operation.{Operation}
 use Rattle.operation.specs.declared.WeylError.{WeylError}

@@ -51,6 +51,11 @@ module _ (test : ℕ → Bool) where
       let b = both-none (firstNot test m) (unless (test m) (At m) Nowhere) e in
       ⊎-elim (λ (q : j ≡ m). rw q (met (test m) some-place (b .1) .0)) (λ (q : j < m). all-good m (b .0) j q) (eq-or-lt-of-le {n = j} {m = m} (omega arith))
 
+  pub none-fails : (m : ℕ) → ((j : ℕ) → j < m → test j ≡ true) → firstNot test m ≡ Nowhere
+  unfolding firstNot
+  none-fails zero h = refl
+  none-fails (suc m) h = rw (none-fails m (λ j l. h j (omega arith)), h m (omega arith))
+
   -- where one is found, it fails, and all before it pass
   pub found-fails : (m k : ℕ) → firstNot test m ≡ At k → (k < m) × (test k ≡ false) × ((j : ℕ) → j < k → test j ≡ true)
   unfolding firstNot
@@ -98,3 +103,15 @@ module _ (test : ℕ → Bool) where
   unfolding all
   all-from zero h = refl
   all-from (suc m) h = rw (all-from m (λ k l. h k (omega arith)), h m (omega arith))
+
+-- tests that agree find the same, and say the same of all
+module _ (p q : ℕ → Bool) where
+  pub first-same : (m : ℕ) → ((i : ℕ) → i < m → p i ≡ q i) → firstNot p m ≡ firstNot q m
+  unfolding firstNot
+  first-same zero h = refl
+  first-same (suc m) h = rw (first-same m (λ i l. h i (omega arith)), h m (omega arith))
+
+  pub all-same : (m : ℕ) → ((i : ℕ) → i < m → p i ≡ q i) → all p m ≡ all q m
+  unfolding all
+  all-same zero h = refl
+  all-same (suc m) h = rw (all-same m (λ i l. h i (omega arith)), h m (omega arith))

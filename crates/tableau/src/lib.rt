@@ -2,6 +2,7 @@
 ghost use mathlib.Core.Path.{_≡_};
 ghost use Prim.Native.Nat.{_+_, _*_, _<_, _≤_};
 ghost use lib.ListN.{length};
+ghost use Rattle.modular.specs.Modular.{WideReciprocal};
 ghost use Rattle.row.specs.Row.{pairing};
 ghost use Rattle.tableau.specs.Tableau.{sized, Tableau, row};
 
@@ -13,8 +14,8 @@ pub struct Answer {
 }
 
 // The pairing of row i with row j.
-pub fn pairing_at(t: &[u8], i: usize, j: usize, d: u8, n: usize) -> u8
-    requires { ⌜ (0 < d) × (d ≤ 31) × (n ≤ 64) × (i < 2 * n) × (j < 2 * n) × Tableau d n (now t) ⌝ }
+pub fn pairing_at(t: &[u8], i: usize, j: usize, d: u8, m: u64, n: usize) -> u8
+    requires { ⌜ (n ≤ 64) × (i < 2 * n) × (j < 2 * n) × Tableau d n (now t) × WideReciprocal d m ⌝ }
     ensures { λ r. ⌜ r ≡ pairing d n (row n (now (t .entry)) i) (row n (now (t .entry)) j) ⌝ }
 {
     let w = 2 * n + 1;
@@ -22,7 +23,7 @@ pub fn pairing_at(t: &[u8], i: usize, j: usize, d: u8, n: usize) -> u8
     let b = a + w;
     let e = j * w;
     let f = e + w;
-    row::pairing(&t[a..b], &t[e..f], d, n)
+    row::pairing(&t[a..b], &t[e..f], d, m, n)
 }
 
 // Whether there are 1 to 64 qudits.

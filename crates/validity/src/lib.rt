@@ -4,6 +4,7 @@ ghost use mathlib.Core.Bool.{true};
 ghost use Prim.Native.Nat.{_+_, _*_, _<_, _≤_};
 ghost use lib.ListN.{length};
 ghost use Rattle.search.specs.Search.{all};
+ghost use Rattle.modular.specs.Modular.{WideReciprocal};
 ghost use Rattle.tableau.specs.Tableau.{Tableau};
 ghost use Rattle.validity.specs.Validity.{byteBelow, pairsWell, rowValid, valid, testNumber};
 use tableau::Answer;
@@ -23,21 +24,21 @@ fn bytes_below(t: &[u8], count: usize, d: u8) -> bool
     true
 }
 
-fn pairs_well(t: &[u8], i: usize, j: usize, d: u8, n: usize) -> bool
-    requires { ⌜ (0 < d) × (d ≤ 31) × (n ≤ 64) × (i < 2 * n) × (j < 2 * n) × Tableau d n (now t) ⌝ }
+fn pairs_well(t: &[u8], i: usize, j: usize, d: u8, m: u64, n: usize) -> bool
+    requires { ⌜ (n ≤ 64) × (i < 2 * n) × (j < 2 * n) × Tableau d n (now t) × WideReciprocal d m ⌝ }
     ensures { λ r. ⌜ r ≡ pairsWell d n (now (t .entry)) i j ⌝ }
 {
     let wanted = if i == n + j { 1 } else { 0 };
-    tableau::pairing_at(t, i, j, d, n) == wanted
+    tableau::pairing_at(t, i, j, d, m, n) == wanted
 }
 
-fn row_valid(t: &[u8], i: usize, d: u8, n: usize) -> bool
-    requires { ⌜ (0 < d) × (d ≤ 31) × (n ≤ 64) × (i < 2 * n) × Tableau d n (now t) ⌝ }
+fn row_valid(t: &[u8], i: usize, d: u8, m: u64, n: usize) -> bool
+    requires { ⌜ (n ≤ 64) × (i < 2 * n) × Tableau d n (now t) × WideReciprocal d m ⌝ }
     ensures { λ r. ⌜ r ≡ rowValid d n (now (t .entry)) i ⌝ }
 {
     let mut j = 0;
     while j < i {
-        if !pairs_well(t, i, j, d, n) {
+        if !pairs_well(t, i, j, d, m, n) {
             return false;
         }
         j += 1;
@@ -46,13 +47,14 @@ fn row_valid(t: &[u8], i: usize, d: u8, n: usize) -> bool
 }
 
 fn rows_valid(t: &[u8], d: u8, n: usize) -> bool
-    requires { ⌜ (0 < d) × (d ≤ 31) × (n ≤ 64) × Tableau d n (now t) ⌝ }
+    requires { ⌜ (3 ≤ d) × (d ≤ 31) × (n ≤ 64) × Tableau d n (now t) ⌝ }
     ensures { λ r. ⌜ r ≡ all (rowValid d n (now (t .entry))) (2 * n) ⌝ }
 {
+    let m = modular::wide_reciprocal(d);
     let rows = 2 * n;
     let mut i = 0;
     while i < rows {
-        if !row_valid(t, i, d, n) {
+        if !row_valid(t, i, d, m, n) {
             return false;
         }
         i += 1;
@@ -62,7 +64,7 @@ fn rows_valid(t: &[u8], d: u8, n: usize) -> bool
 
 // Whether the rows of t are a valid tableau.
 pub fn is_valid(t: &[u8], d: u8, n: usize) -> bool
-    requires { ⌜ (0 < d) × (d ≤ 31) × (n ≤ 64) × (2 * n * (2 * n + 1) ≤ length (now t)) ⌝ }
+    requires { ⌜ (3 ≤ d) × (d ≤ 31) × (n ≤ 64) × (2 * n * (2 * n + 1) ≤ length (now t)) ⌝ }
     ensures { λ r. ⌜ r ≡ valid d n (now (t .entry)) ⌝ }
 {
     if !bytes_below(t, 2 * n * (2 * n + 1), d) {

@@ -136,7 +136,7 @@ dot-is n v w = go n
     go zero = refl
     go (suc k) = ap (λ (z : ℕ). z + bytes v (n + k) * bytes w k) (go k)
 
-dot-means : {d n : ℕ} {v w : List ℕ} {u x : ℕ → ℕ} {r y : ℕ} → Means d n v u r → Means d n w x y → Cong d (dot n v w n) (half n u x)
+pub dot-means : {d n : ℕ} {v w : List ℕ} {u x : ℕ → ℕ} {r y : ℕ} → Means d n v u r → Means d n w x y → Cong d (dot n v w n) (half n u x)
 dot-means {d} {n} {v} {w} {u} {x} a b =
     cong-trans (cong-eq d (dot-is n v w)) (half-cong n d (bytes v) u (bytes w) x (a .powers) (b .powers))
 

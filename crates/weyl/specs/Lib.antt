@@ -1,2 +1,3 @@
 pub mod Scalar
 pub mod Laws
+pub mod Even

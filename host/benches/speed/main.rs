@@ -16,7 +16,7 @@ use cagvost::book::{Book, Operation};
 use calls::{Columns, DIRECT, FRAME, Job, TEST};
 use std::thread;
 use std::time::{Duration, Instant};
-use timing::{Unit, head, leaves, line, take};
+use timing::{Times, Unit, head, leaves, line, take};
 
 const DIMENSIONS: [u8; 3] = [3, 5, 31];
 const QUDITS: u8 = 64;
@@ -50,8 +50,9 @@ fn preface() {
     println!("neither is timed. Given are the least and the median time over the rounds, and the");
     println!("ratios of both; where they differ much, the machine was busy.");
     println!("Every run reads and checks its book and tests its tableau.");
-    println!("(b) is the fastest safe Rust that we could write; it goes beyond Cagvost's ways.");
-    println!("(a) has no thought of speed: at each operation it looks through all errors.");
+    println!(
+        "(b) is the fastest safe Rust on rows that we could write, (a) has no thought of speed."
+    );
     if cfg!(target_feature = "avx2") {
         println!("Beware: (a) and (b) were compiled for AVX2, which Cagvost does not use.");
     }
@@ -114,49 +115,47 @@ fn growth() {
 
 fn single_operations() {
     head(
-        "Single operations on 64 qudits, by direct runs of books that repeat one. Nothing is \
-         subtracted:\na time has its share of reading the book and of the tableau test.",
+        "Single operations on 64 qudits, by direct runs of books that repeat one. A run without \
+         entries,\ngiven last, is subtracted: it has read the book, tested the tableau and no more.",
         "ns per operation",
     );
     for d in DIMENSIONS {
         let dense = dense_tableau(d, QUDITS);
+        let empty = Job::new(&Book::new(d, QUDITS), dense.clone());
+        let idle = take(&empty, &DIRECT, SINGLE);
         for (name, gate) in gates() {
             let book = books::of_one_gate(d, QUDITS, gate);
             let job = Job::new(&book, dense.clone());
-            single(&format!("d {d:<2} {name}, of 4,096"), 4096, &job, &DIRECT);
+            single(&format!("d {d:<2} {name}, of 4,096"), 4096, &job, &idle);
         }
         let job = Job::new(&books::of_one_error(d, QUDITS), dense.clone());
-        single(&format!("d {d:<2} error, of 2,048"), 2048, &job, &DIRECT);
-        measurements(d, dense.clone());
-        let job = Job::new(&Book::new(d, QUDITS), dense);
-        single(&format!("d {d:<2} book without entries"), 1, &job, &DIRECT);
-        single(
-            &format!("d {d:<2} tableau test, all pairings"),
-            1,
-            &job,
-            &TEST,
-        );
+        single(&format!("d {d:<2} error, of 2,048"), 2048, &job, &idle);
+        measurements(d, dense, &idle);
+        let whole = Unit::NanosPer(1);
+        line(&format!("d {d:<2} run without entries"), whole, &idle);
+        let times = take(&empty, &TEST, SINGLE);
+        line(&format!("d {d:<2} test, all pairings"), whole, &times);
     }
 }
 
-fn measurements(d: u8, dense: Vec<u8>) {
+fn measurements(d: u8, dense: Vec<u8>, idle: &Times) {
     let free = Job::new(&books::of_measurements(d, QUDITS, 64), dense);
     assert_eq!(kinds(&free), (64, 0));
     single(
         &format!("d {d:<2} free measurement, of 64"),
         64,
         &free,
-        &DIRECT,
+        idle,
     );
     let book = books::of_measurements(d, QUDITS, 4096);
     let certain = Job::new(&book, certain_tableau(d, QUDITS));
     assert_eq!(kinds(&certain), (0, 4096));
     let label = format!("d {d:<2} certain measurement, of 4,096");
-    single(&label, 4096, &certain, &DIRECT);
+    single(&label, 4096, &certain, idle);
 }
 
-fn single(label: &str, count: usize, job: &Job, columns: &Columns) {
-    let times = take(job, columns, SINGLE);
+fn single(label: &str, count: usize, job: &Job, idle: &Times) {
+    let times = take(job, &DIRECT, SINGLE).less(idle);
     line(label, Unit::NanosPer(count), &times);
 }
 

@@ -17,6 +17,17 @@ pub struct Times {
     pub median: [f64; 3],
 }
 
+impl Times {
+    /// Without the times of another call.
+    pub fn less(self, other: &Times) -> Times {
+        let minus = |x: [f64; 3], y: [f64; 3]| std::array::from_fn(|i| x[i] - y[i]);
+        Times {
+            least: minus(self.least, other.least),
+            median: minus(self.median, other.median),
+        }
+    }
+}
+
 /// Times the call in each column for about as long as the budget says.
 ///
 /// The columns take turns, and the one that begins changes from round to round. Buffers are

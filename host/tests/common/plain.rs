@@ -290,9 +290,11 @@ impl Book {
         count_measurements(&self.operations)
     }
 
-    /// The errors of place k, in the order of their entries.
+    /// The errors of place k, in the order of their entries. Places never fall.
     fn errors_at(&self, k: usize) -> impl Iterator<Item = Error> {
-        self.errors.iter().copied().filter(move |e| e.place == k)
+        let first = self.errors.partition_point(|e| e.place < k);
+        let rest = self.errors[first..].iter().copied();
+        rest.take_while(move |e| e.place == k)
     }
 }
 

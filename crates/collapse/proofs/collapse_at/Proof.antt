@@ -29,7 +29,7 @@ part-collapse-row-end c = search needs
 
 collapse-row-requires : tie.Need-collapse-row-requires
 unfolding part
-collapse-row-requires c κs = let p = c .before .before .before .before .pre in (simp add-sub-cancel-left (p .1), p .2)
+collapse-row-requires c κs = let p = c .before .before .before .before .before .pre in (simp add-sub-cancel-left (p .1), p .2)
 
 same-length : tie.Need-same-length
 same-length c = search needs

@@ -1,8 +1,13 @@
 -- `collapse::collapse_by` meets its contract.
 -- Assumes nothing.
+use mathlib.Core.Path.{ap, _∙_}
+use Prim.Native.Nat.{_-_}
+use native.Mathlib.Nat.{le-of-lt}
 use native.Mathlib.Omega.{arith}
 use borrow.Author.Needs.{needs}
 use Rattle.modular.proofs.Listed.{dimension, inverse-less}
+use Rattle.row.specs.Row.{tab}
+use Rattle.row.specs.Fill.{multipleAt}
 use Rattle.collapse.proofs.collapse_by.Statement.{statement}
 use Rattle.collapse.proofs.collapse_by.Tie as tie
 
@@ -13,25 +18,36 @@ inverse-requires : tie.Need-inverse-requires
 inverse-requires c κs = search needs
 
 reciprocal-requires : tie.Need-reciprocal-requires
-reciprocal-requires c κs = let e = dimension _ (c .before .before .before .before .before .pre .0) in (e .low, e .high)
+reciprocal-requires c κs = let e = dimension _ (c .before .before .before .before .before .before .pre .0) in (e .low, e .high)
+
+sub-multiples : tie.Need-sub-multiples
+sub-multiples c = rw (c .before .before .inverse .ensures) (le-of-lt (inverse-less _ _ (omega arith)))
+
+multiples-requires : tie.Need-multiples-requires
+multiples-requires c κs = search needs
 
 powers-requires : tie.Need-powers-requires
 powers-requires c κs = search needs
 
 collapse-all-requires : tie.Need-collapse-all-requires
 collapse-all-requires c κs =
-    let p = c .before .before .before .before .before .before .before .before .before .before .before .before .pre in
-    let v = c .before .before .before .before .before .before .before .inverse in (
+    let s = c .before .before .before .before .before .before .before .before .before .before .before .before .before .before .before .before .before .before in
+    let p = s .pre in
+    let v = c .before .before .before .before .before .before .before .before .before .before .before .before .inverse in
+    let m = c .before .before .before .before .before .before .before .before .before .before .before .reciprocal .ensures in (
       p .5,
       record {
+        low = m .low;
+        high = m .high;
         size = p .1;
         qudit = p .2;
         number = p .3;
         below = p .4;
-        reciprocal = c .before .before .before .before .before .before .reciprocal .ensures;
         inverts = v .ensures;
         small = rw (v .ensures) (inverse-less _ _ (omega arith));
-        multiples = c .before .before .before .before .powers .ensures;
+        copied = p .6;
+        multiples = c .before .before .before .before .before .powers .ensures;
+        exponents = c .before .before .before .before .before .before .before .before .before .multiples .ensures ∙ ap (tab (multipleAt (s .args .d) (s .args .d - v .result))) (p .8);
       },
     )
 
@@ -40,6 +56,9 @@ same-length c = search needs
 
 same-length-2 : tie.Need-same-length-2
 same-length-2 c = search needs
+
+same-length-3 : tie.Need-same-length-3
+same-length-3 c = search needs
 
 returns : tie.Need-returns
 returns c = search needs
@@ -51,8 +70,11 @@ collapse-by-spec =
     shared-slice-read-inverse
     inverse-requires
     reciprocal-requires
+    sub-multiples
+    multiples-requires
     powers-requires
     collapse-all-requires
     same-length
     same-length-2
+    same-length-3
     returns)

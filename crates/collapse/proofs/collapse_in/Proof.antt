@@ -1,10 +1,13 @@
 -- `collapse::collapse_in` meets its contract.
 -- Assumes nothing.
-use Prim.Native.Nat.{_+_}
+use Prim.Native.Nat.{_+_, _*_, _≤_}
+use native.Mathlib.Nat.{mul-le-mul}
 use native.Mathlib.Omega.{arith}
 use borrow.Author.Needs.{needs}
+use Rattle.modular.proofs.Listed.{dimension}
 use Rattle.tableau.proofs.Parts.{row-room, tableau-row}
-use Rattle.collapse.specs.Collapse.{collapse}
+use Rattle.collapse.specs.Even.{evenCollapse}
+use Rattle.collapse.proofs.Multiples.{multiples-none}
 use Rattle.collapse.proofs.collapse_in.Statement.{statement}
 use Rattle.collapse.proofs.collapse_in.Tie as tie
 
@@ -13,21 +16,26 @@ add-copy-row c = search needs
 
 copy-row-requires : tie.Need-copy-row-requires
 copy-row-requires c κs =
-    let s = c .before .before .before .before .before in
+    let s = c .before .before .before .before .before .before in
     (s .pre .6, row-room _ (s .args .t .now) (s .pre .5 .room) (s .args .n + s .args .k) (omega arith))
 
 collapse-by-requires : tie.Need-collapse-by-requires
 collapse-by-requires c κs =
-    let s = c .before .before .before .before .before .before .before .before .before .before .before in
-    let p = s .pre in (
+    let s = c .before .before .before .before .before .before .before .before .before .before .before .before .before in
+    let p = s .pre in
+    let dim = dimension _ (p .0) in
+    let wide : 2 * s .args .n + 1 ≤ 129 = omega arith in
+    let copied = c .before .before .before .before .before .before .copy-row .ensures in
+    let r = tableau-row _ _ _ (p .5) (s .args .n + s .args .k) (omega arith) in (
       p .0,
       p .1,
       p .2,
       p .3,
       p .4,
       p .5,
-      p .7,
-      rw (c .before .before .before .before .before .copy-row .ensures) (tableau-row _ _ _ (p .5) (s .args .n + s .args .k) (omega arith)),
+      rw copied r,
+      rw copied (multiples-none _ _ _ (omega (arith, dim .low)) r _ _ (p .7) (mul-le-mul (dim .high) wide)),
+      p .8,
     )
 
 same-length : tie.Need-same-length
@@ -39,11 +47,14 @@ same-length-2 c = search needs
 same-length-3 : tie.Need-same-length-3
 same-length-3 c = search needs
 
+same-length-4 : tie.Need-same-length-4
+same-length-4 c = search needs
+
 returns : tie.Need-returns
-unfolding collapse
+unfolding evenCollapse
 returns c =
-    let b = c .before .before .before .before .collapse-by in
-    (rw (← c .before .before .before .before .before .before .before .before .before .before .copy-row .ensures) (b .ensures .0), b .ensures .1)
+    let b = c .before .before .before .before .before .before .collapse-by .ensures in
+    (rw (← c .before .before .before .before .before .before .before .before .before .before .before .before .before .copy-row .ensures) (b .0), b .1)
 
 pub collapse-in-spec : {M : Type 1} → statement M
 collapse-in-spec =
@@ -55,4 +66,5 @@ collapse-in-spec =
     same-length
     same-length-2
     same-length-3
+    same-length-4
     returns)

@@ -1,18 +1,13 @@
 -- `collapse::collapse_row` meets its contract.
 -- Assumes nothing.
-use mathlib.Core.Path.{_≡_, sym, _∙_}
-use Prim.Native.Nat.{_*_, _%_, _<_}
+use mathlib.Core.Path.{sym}
 use native.Mathlib.Omega.{arith}
 use borrow.Author.Needs.{needs}
 use borrow.Author.Tests.{eq-eqb, ne-eqb}
-use Rattle.modular.specs.Modular.{neg}
-use Rattle.modular.specs.Dimension.{inverse}
-use Rattle.modular.proofs.Residue.{rest-less}
-use Rattle.row.specs.Row.{xOf}
 use Rattle.row.specs.Generators.{zWith}
-use Rattle.collapse.specs.Collapse.{collapseRow}
+use Rattle.collapse.specs.Even.{evenCollapseRow}
 use Rattle.collapse.proofs.Multiples.{multiple-room, multiple-row}
-use Rattle.collapse.proofs.Collapsed.{stays}
+use Rattle.collapse.proofs.Exponents.{table-room, table-at, table-less, stays}
 use Rattle.collapse.proofs.collapse_row.Statement.{statement}
 use Rattle.collapse.proofs.collapse_row.Tie as tie
 
@@ -21,19 +16,17 @@ index-requires c κs = search needs
 
 copy-row-requires : tie.Need-copy-row-requires
 copy-row-requires c κs =
-    let s = c .before .before .before .before .before .before in
-    let g = s .pre .1 in (
-      s .pre .0 .len,
-      rw (c .index .ensures) (multiple-room _ _ _ (omega arith) _ (g .multiples) _ (g .small)),
-    )
+    let s = c .before .before .before .before .before .before .before in
+    let g = s .pre .1 in
+    (s .pre .0 .len, rw (c .index .ensures) (multiple-room _ _ _ (omega (arith, g .low)) (g .copied) _ (g .multiples) _ (g .small)))
 
 same-length : tie.Need-same-length
 same-length c = search needs
 
 returns : tie.Need-returns
-unfolding collapseRow
+unfolding evenCollapseRow
 returns c =
-    let s = c .before .before .before .before .before .before .before .before .before in
+    let s = c .before .before .before .before .before .before .before .before .before .before in
     let g = s .pre .1 in
     rw
     (eq-eqb _ _ (c .before .before .before .before .before .if1 .taken), ← g .inverts, ← g .multiples .each (s .args .inv) (g .small), ← c .before .before .before .index .ensures)
@@ -55,68 +48,57 @@ same-length-2 : tie.Need-same-length-2
 same-length-2 c = search needs
 
 returns-2 : tie.Need-returns-2
-unfolding collapseRow zWith
-returns-2 c =
-    rw
-    (ne-eqb _ _ (c .before .before .before .before .before .before .if1 .left), eq-eqb _ _ (c .before .before .before .before .before .if2 .taken))
-    (cc)
+unfolding evenCollapseRow zWith
+returns-2 c = rw (ne-eqb _ _ (c .before .before .before .before .before .before .if1 .left), eq-eqb _ _ (c .before .before .before .before .before .if2 .taken)) (cc)
 
-slice-read-f : tie.Need-slice-read-f
-slice-read-f c = search needs
-
-returns-3 : tie.Need-returns-3
-unfolding collapseRow
-returns-3 c =
-    let p = c .before .before .before .before .before .before .before .pre in
-    rw (ne-eqb _ _ (c .before .before .before .if1 .left), ne-eqb _ _ (c .before .before .if2 .left))
-    (sym (stays _ _ _ _ _ _ (p .0) (omega (arith, p .1 .reciprocal .low)) (c .if3 .taken)))
-
-negative-requires-2 : tie.Need-negative-requires-2
-negative-requires-2 c κs =
-    let s = c .before .before .before .before .before .before .before in
-    s .pre .0 .below (s .args .q) (omega arith)
-
-mul-requires : tie.Need-mul-requires
-mul-requires c κs =
-    let g = c .before .before .before .before .before .before .before .before .pre .1 in
-    (rest-less _ (omega arith) (c .negative2 .ensures), g .small, g .reciprocal)
+slice-read-index : tie.Need-slice-read-index
+slice-read-index c = search needs
 
 index-requires-2 : tie.Need-index-requires-2
 index-requires-2 c κs = search needs
 
-multiply-requires : tie.Need-multiply-requires
-multiply-requires c κs =
+shared-slice-read-index : tie.Need-shared-slice-read-index
+shared-slice-read-index c =
+    let s = c .before .before .before .before .before .before .before .before .before in table-room (s .pre .1) (s .pre .0) (c .before .index2 .ensures)
+
+index-requires-3 : tie.Need-index-requires-3
+index-requires-3 c κs = search needs
+
+returns-3 : tie.Need-returns-3
+unfolding evenCollapseRow
+returns-3 c =
     let s = c .before .before .before .before .before .before .before .before .before .before .before in
     let g = s .pre .1 in
-    let l : c .index2 .result < s .args .d =
-    omega (arith, c .index2 .ensures, rest-less _ (omega arith) (c .before .before .mul .ensures)) in (
-      omega (arith, g .reciprocal .low),
-      g .reciprocal .high,
-      g .size,
-      multiple-room _ _ _ (omega arith) _ (g .multiples) _ l,
+    rw
+    (ne-eqb _ _ (c .before .before .before .before .before .before .if1 .left), ne-eqb _ _ (c .before .before .before .before .before .if2 .left), ← table-at g (s .pre .0) (c .before .before .before .index2 .ensures) (c .before .index3 .ensures))
+    (sym (stays _ _ _ _ _ (s .pre .0) (g .copied) (c .if3 .taken)))
+
+multiply-requires : tie.Need-multiply-requires
+multiply-requires c κs =
+    let s = c .before .before .before .before .before .before .before .before .before .before .before .before in
+    let g = s .pre .1 in
+    let l = table-less g (s .pre .0) (c .before .before .before .before .index2 .ensures) (c .before .before .index3 .ensures) in (
+      g .high,
+      multiple-room _ _ _ (omega (arith, g .low)) (g .copied) _ (g .multiples) _ l,
       s .pre .0,
-      multiple-row _ _ _ (omega arith) _ (g .multiples) _ l,
+      multiple-row _ _ _ (omega (arith, g .low)) (g .copied) _ (g .multiples) _ l,
     )
 
 same-length-3 : tie.Need-same-length-3
 same-length-3 c = search needs
 
 returns-4 : tie.Need-returns-4
-unfolding collapseRow
+unfolding evenCollapseRow
 returns-4 c =
-    let s = c .before .before .before .before .before .before .before .before .before .before .before .before .before .before in
-    let a = s .args in
+    let s = c .before .before .before .before .before .before .before .before .before .before .before .before .before .before .before in
     let g = s .pre .1 in
-    let h = c .before .before .before .index2 in
-    let m = c .before .before .before .before .before .mul in
-    let l : h .result < a .d = omega (arith, h .ensures, rest-less _ (omega arith) (m .ensures)) in
-    let e : h .result ≡ neg (a .d) (xOf (a .v .now) (a .q)) * inverse (a .d) (xOf (a .pivot .now) (a .q)) % a .d =
-    h .ensures ∙ m .ensures ∙ rw (c .before .before .before .before .before .before .negative2 .ensures, g .inverts) in
+    let f = c .before .before .before .before .before .before .before .index2 in
+    let h = c .before .before .before .before .before .index3 in
     rw (
       ne-eqb _ _ (c .before .before .before .before .before .before .before .before .before .before .if1 .left),
       ne-eqb _ _ (c .before .before .before .before .before .before .before .before .before .if2 .left),
-      ← e,
-      ← g .multiples .each (h .result) l,
+      ← table-at g (s .pre .0) (f .ensures) (h .ensures),
+      ← g .multiples .each (h .result) (table-less g (s .pre .0) (f .ensures) (h .ensures)),
     )
     (c .before .before .multiply .ensures)
 
@@ -134,11 +116,11 @@ collapse-row-spec =
     unit-row-requires
     same-length-2
     returns-2
-    slice-read-f
-    returns-3
-    negative-requires-2
-    mul-requires
+    slice-read-index
     index-requires-2
+    shared-slice-read-index
+    index-requires-3
+    returns-3
     multiply-requires
     same-length-3
     returns-4)

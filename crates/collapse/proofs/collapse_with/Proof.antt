@@ -1,12 +1,9 @@
 -- `collapse::collapse_with` meets its contract.
 -- Assumes nothing.
 use mathlib.Core.Path.{sym}
-use Prim.Native.Nat.{_+_, _*_, _≤_}
-use native.Mathlib.Nat.{mul-le-mul}
 use native.Mathlib.Omega.{arith}
 use lib.Seq.{length-take-le}
 use borrow.Author.Needs.{needs}
-use Rattle.modular.proofs.Listed.{dimension}
 use Rattle.collapse.proofs.collapse_with.Statement.{statement}
 use Rattle.collapse.proofs.collapse_with.Tie as tie
 
@@ -20,22 +17,13 @@ slice-relend-prefix-collapse-in : tie.Need-slice-relend-prefix-collapse-in
 slice-relend-prefix-collapse-in c = search needs
 
 slice-aggregate-collapse-in : tie.Need-slice-aggregate-collapse-in
-slice-aggregate-collapse-in c = sym (length-take-le _ (c .before .before .before .before .before .args .pivot .now) (omega arith))
+slice-aggregate-collapse-in c = sym (length-take-le _ (c .before .before .before .before .before .before .args .pivot .now) (omega arith))
 
 collapse-in-requires : tie.Need-collapse-in-requires
 collapse-in-requires c κs =
-    let s = c .before .before .before .before .before .before in
+    let s = c .before .before .before .before .before .before .before .before in
     let p = s .pre in
-    let wide : 2 * s .args .n + 1 ≤ 129 = omega arith in (
-      p .0,
-      p .1,
-      p .2,
-      p .3,
-      p .4,
-      p .5,
-      length-take-le _ (s .args .pivot .now) (omega arith),
-      omega (arith, mul-le-mul (dimension _ (p .0) .high) wide, p .7),
-    )
+    (p .0, p .1, p .2, p .3, p .4, p .5, length-take-le _ (s .args .pivot .now) (omega arith), p .7, p .8)
 
 same-length : tie.Need-same-length
 same-length c = search needs
@@ -45,6 +33,9 @@ same-length-2 c = search needs
 
 same-length-3 : tie.Need-same-length-3
 same-length-3 c = search needs
+
+same-length-4 : tie.Need-same-length-4
+same-length-4 c = search needs
 
 returns : tie.Need-returns
 returns c = search needs
@@ -61,4 +52,5 @@ collapse-with-spec =
     same-length
     same-length-2
     same-length-3
+    same-length-4
     returns)

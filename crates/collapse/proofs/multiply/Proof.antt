@@ -29,7 +29,7 @@ part-product-end c = search needs
 
 product-requires : tie.Need-product-requires
 unfolding part
-product-requires c κs = let p = c .before .before .before .before .pre in (p .0, p .1, p .2, p .4, simp add-sub-cancel-left (p .5))
+product-requires c κs = let p = c .before .before .before .before .pre in (p .0, p .2, simp add-sub-cancel-left (p .3))
 
 same-length : tie.Need-same-length
 same-length c = search needs

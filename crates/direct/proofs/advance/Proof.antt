@@ -7,6 +7,7 @@ use denote.Ref.{now}
 use lib.ListN.{length}
 use borrow.Author.Needs.{needs}
 use borrow.Author.Tests.{not-true, not-false}
+use Rattle.even.specs.Even.{plain}
 use Rattle.circuit.specs.Circuit.{tally}
 use Rattle.book.specs.Decoded.{operationsOf, errorsOf}
 use Rattle.book.proofs.Lists.{op-count, step-taken, step-refused}
@@ -16,7 +17,9 @@ use Rattle.direct.proofs.advance.Statement.{statement}
 use Rattle.direct.proofs.advance.Tie as tie
 
 strike-requires : tie.Need-strike-requires
-strike-requires c κs = search needs
+strike-requires c κs =
+    let s = c .before .before .before .before .before .before in
+    (s .pre .1 .dimension, s .pre .1 .qudits, s .pre .5, s .pre .2, s .pre .1 .lists .strikes, s .pre .1 .lists .in-order)
 
 step-at-requires : tie.Need-step-at-requires
 step-at-requires c κs = search needs
@@ -34,7 +37,7 @@ returns : tie.Need-returns
 returns c =
     let p = c .before .before in
     let s = p .before .before .before .before .before .before .before .before .before .before in
-    absurd (step-refused (s .args .d) (s .args .n) (now (s .args .ops)) (s .args .k) (s .pre .3 (s .args .k) (s .pre .0)) (p .step-at .ensures) (c .enum-told .given .1))
+    absurd (step-refused (s .args .d) (s .args .n) (now (s .args .ops)) (s .args .k) (s .pre .0) (s .pre .1 .lists .operations (s .args .k) (omega (arith, s .pre .0, op-count (s .args .d) (s .args .n) (now (s .args .ops))))) (p .step-at .ensures) (c .enum-told .given .1))
 
 perform-requires : tie.Need-perform-requires
 perform-requires c κs =
@@ -45,12 +48,12 @@ perform-requires c κs =
     let ops = operationsOf (a .d) (a .n) (now (a .ops)) in
     let o = step-taken (a .d) (a .n) (now (a .ops)) (a .k) (s .pre .0) (p .step-at .ensures) (m .step .given .1) in
     let k-in : a .k < length ops = omega (arith, s .pre .0, op-count (a .d) (a .n) (now (a .ops))) in (
-      s .pre .1,
-      s .pre .2,
-      rw (← o) (s .pre .4 .operations (a .k) k-in),
-      omega (arith, s .pre .6, choice-left (s .pre .4) (a .k) k-in, ap tally o),
-      s .pre .7,
-      s .pre .4 .below,
+      s .pre .1 .dimension,
+      s .pre .1 .qudits,
+      rw (← o) (s .pre .1 .lists .operations (a .k) k-in),
+      omega (arith, s .pre .3, choice-left (s .pre .1 .lists) (a .k) k-in, ap tally o),
+      s .pre .4,
+      s .pre .1 .lists .below,
       p .before .before .before .strike .ensures .1,
     )
 
@@ -69,7 +72,7 @@ returns-2 c =
     let s = k .before .before .before .before .before .before .before in
     let a = s .args in
     let o = step-taken (a .d) (a .n) (now (a .ops)) (a .k) (s .pre .0) (p .step-at .ensures) (m .step .given .1) in (
-      step-is (a .d) (a .n) (operationsOf (a .d) (a .n) (now (a .ops))) (errorsOf (now (a .errors))) (now (a .choices)) (a .k) (now (a .t)) (now (a .results)) o (s .pre .6) (k .strike .ensures .0) (rw (not-true (f .perform .result) (c .if1 .taken)) at (f .perform .ensures .0)),
+      step-is (a .d) (a .n) (operationsOf (a .d) (a .n) (now (a .ops))) (errorsOf (now (a .errors))) (now (a .choices)) (a .k) (plain (a .d) (a .n) (now (a .t))) (now (a .results)) o (s .pre .3) (k .strike .ensures .0) (rw (not-true (f .perform .result) (c .if1 .taken)) at (f .perform .ensures .0)),
       refl,
       f .perform .ensures .1,
       f .perform .ensures .2,
@@ -87,7 +90,7 @@ add-measurements c =
     let ops = operationsOf (a .d) (a .n) (now (a .ops)) in
     let o = step-taken (a .d) (a .n) (now (a .ops)) (a .k) (s .pre .0) (p .step-at .ensures) (m .step .given .1) in
     let k-in : a .k < length ops = omega (arith, s .pre .0, op-count (a .d) (a .n) (now (a .ops))) in
-    omega (arith, c .tally .ensures .0, s .pre .6, choice-left (s .pre .4) (a .k) k-in, ap tally o)
+    omega (arith, c .tally .ensures .0, s .pre .3, choice-left (s .pre .1 .lists) (a .k) k-in, ap tally o)
 
 same-length-4 : tie.Need-same-length-4
 same-length-4 c = search needs
@@ -105,8 +108,8 @@ returns-3 c =
     let a = s .args in
     let ops = operationsOf (a .d) (a .n) (now (a .ops)) in
     let o = step-taken (a .d) (a .n) (now (a .ops)) (a .k) (s .pre .0) (p .step-at .ensures) (m .step .given .1) in (
-      step-is (a .d) (a .n) (operationsOf (a .d) (a .n) (now (a .ops))) (errorsOf (now (a .errors))) (now (a .choices)) (a .k) (now (a .t)) (now (a .results)) o (s .pre .6) (k .strike .ensures .0) (rw (not-false (f .perform .result) (c .before .if1 .left)) at (f .perform .ensures .0)),
-      (k .strike .ensures .2, omega (arith, c .tally .ensures .0, s .pre .6, measured-step ops (a .k), ap tally o)),
+      step-is (a .d) (a .n) (operationsOf (a .d) (a .n) (now (a .ops))) (errorsOf (now (a .errors))) (now (a .choices)) (a .k) (plain (a .d) (a .n) (now (a .t))) (now (a .results)) o (s .pre .3) (k .strike .ensures .0) (rw (not-false (f .perform .result) (c .before .if1 .left)) at (f .perform .ensures .0)),
+      (k .strike .ensures .2, omega (arith, c .tally .ensures .0, s .pre .3, measured-step ops (a .k), ap tally o)),
       f .perform .ensures .1,
       f .perform .ensures .2,
     )

@@ -4,7 +4,7 @@ use native.Mathlib.Omega.{arith}
 use denote.Ref.{now}
 use borrow.Author.Needs.{needs}
 use Rattle.modular.proofs.Listed.{dimension}
-use Rattle.book.proofs.Handed.{handed}
+use Rattle.book.proofs.Handed.{handed, bodies-of}
 use Rattle.direct.specs.DirectBook.{directTold, directBook}
 use Rattle.direct.proofs.Books.{short-book, rooms, invalid-book, tested, run-book}
 use Rattle.direct.proofs.direct_run.Statement.{statement}
@@ -104,10 +104,7 @@ run-requires c κs =
     let b1 = p .before .before .part-of .ensures in
     let b2 = p .before .part-of2 .ensures in
     let b3 = p .part-of3 .ensures in (
-      g .dimension,
-      g .qudits,
-      λ i h. rw b1 (g .good i (rw b1 at h)),
-      rw (b1, b2, b3) (g .lists),
+      bodies-of (now (s .book)) g b1 b2 b3,
       rw (b3, g .room) (r .1),
       tested (now (s .book)) g (now (s .t)) (now (s .results)) (o .is-roomy .ensures) (v .before .before .if1 .left) (v .is-valid .ensures) (p .before .before .before .if2 .left),
     )

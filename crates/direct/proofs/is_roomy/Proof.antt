@@ -1,9 +1,8 @@
 -- `direct::is_roomy` meets its contract.
 -- Assumes nothing.
-use Prim.Native.Nat.{_+_, _*_, _≤_}
-use native.Mathlib.Nat.{mul-le-mul}
 use native.Mathlib.Omega.{arith}
 use borrow.Author.Needs.{needs}
+use Rattle.tableau.proofs.Sized.{sized-bytes}
 use Rattle.measure.proofs.Room.{halves}
 use Rattle.direct.proofs.is_roomy.Statement.{statement}
 use Rattle.direct.proofs.is_roomy.Tie as tie
@@ -18,11 +17,7 @@ add-result : tie.Need-add-result
 add-result c = search needs
 
 mul-result-3 : tie.Need-mul-result-3
-mul-result-3 c =
-    let n = c .args .n in
-    let a : 2 * n ≤ 128 = omega arith in
-    let b : 2 * n + 1 ≤ 129 = omega arith in
-    omega (arith, mul-le-mul a b)
+mul-result-3 c = omega (arith, sized-bytes (c .args .n) (c .pre))
 
 returns : tie.Need-returns
 returns c = rw halves

@@ -7,6 +7,7 @@ use lib.ListN.{length}
 use borrow.Author.Needs.{needs}
 use borrow.Author.Tests.{ltb-true}
 use Rattle.modular.proofs.Listed.{dimension}
+use Rattle.even.specs.Even.{plain}
 use Rattle.circuit.proofs.Gates.{is-gate}
 use Rattle.run.specs.Direct.{directKind}
 use Rattle.direct.proofs.Looks.{measured-so}
@@ -55,7 +56,7 @@ returns c =
     let dim = dimension (a .d) (s .pre .0) in
     let below = s .pre .5 (a .j) (omega arith) in (
       rw (o .operation .given .1)
-          (measured-so (a .d) (a .n) (now (a .choices)) (a .j) (o .operation .given .0 .0) (now (a .t)) (now (a .results)) below (omega arith)
+          (measured-so (a .d) (a .n) (now (a .choices)) (a .j) (o .operation .given .0 .0) (plain (a .d) (a .n) (now (a .t))) (now (a .results)) below (omega arith)
           (m .measure .ensures .0)),
       m .measure .ensures .1,
       search needs,

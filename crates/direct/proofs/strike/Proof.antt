@@ -6,8 +6,8 @@ use native.Mathlib.Omega.{arith}
 use denote.Ref.{now}
 use lib.ListN.{length}
 use borrow.Author.Needs.{needs}
-use Rattle.modular.proofs.Listed.{dimension}
-use Rattle.tableau.specs.Tableau.{Tableau}
+use Rattle.validity.specs.Validity.{Valid}
+use Rattle.even.specs.Even.{plain}
 use Rattle.circuit.specs.Circuit.{errAt}
 use Rattle.book.specs.Decoded.{errorsOf}
 use Rattle.book.proofs.Lists.{error-count, error-at}
@@ -18,7 +18,7 @@ use Rattle.direct.proofs.strike.Tie as tie
 
 abbrev Inv-loop : tie.InvT-loop
 Inv-loop t₀ errors j k d n count i₀ t i =
-    Passing (errorsOf errors) i k × (t ≡ strike d n (errorsOf errors) k t₀ i) × Tableau d n t × (length t ≡ length t₀)
+    Passing (errorsOf errors) i k × (plain d n t ≡ strike d n (errorsOf errors) k (plain d n t₀) i) × Valid d n t × (length t ≡ length t₀)
 
 abbrev μ-loop : tie.MeasureT-loop
 μ-loop t₀ errors j k d n count i₀ t i = count - i
@@ -27,7 +27,7 @@ loop-holds : tie.Need-loop-holds Inv-loop μ-loop
 unfolding strike
 loop-holds c =
     let s = c .before .before in
-    (passing-first (s .pre .3), sym (taken-before (strike-taken _ _ _ _ (now (s .args .t))) (s .pre .3)), s .pre .2, refl)
+    (passing-first (s .pre .3), sym (taken-before (strike-taken _ _ _ _ (plain (s .args .d) (s .args .n) (now (s .args .t)))) (s .pre .3)), s .pre .2, refl)
 
 error-at-requires : tie.Need-error-at-requires Inv-loop μ-loop
 error-at-requires c κs = search needs
@@ -44,7 +44,7 @@ returns c =
     let in-list : l .loop .i < length (errorsOf es) = omega (arith, error-count es) in
     let entry = error-at es (l .loop .i) (omega arith) ∙ sym (c .before .before .error-at .ensures) in
     let end = passing-other (l .loop .inv .0) in-list (rw entry (c .if1 .taken)) (s .pre .5) in
-    (l .loop .inv .1 ∙ sym (taken-after (strike-taken (a .d) (a .n) (errorsOf es) (a .k) (now (a .t))) end), l .loop .inv .2, end)
+    (l .loop .inv .1 ∙ sym (taken-after (strike-taken (a .d) (a .n) (errorsOf es) (a .k) (plain (a .d) (a .n) (now (a .t)))) end), l .loop .inv .2, end)
 
 error-rows-requires : tie.Need-error-rows-requires Inv-loop μ-loop
 error-rows-requires c κs =
@@ -53,8 +53,7 @@ error-rows-requires c κs =
     let es = now (s .args .errors) in
     let in-list : l .loop .i < length (errorsOf es) = omega (arith, error-count es) in
     let entry = error-at es (l .loop .i) (omega arith) ∙ sym (c .before .before .before .error-at .ensures) in
-    let dim = dimension (s .args .d) (s .pre .0) in
-    (dim .low, dim .high, s .pre .1, rw (← entry) (s .pre .4 (l .loop .i) in-list), l .loop .inv .2)
+    (s .pre .0, s .pre .1, rw (← entry) (s .pre .4 (l .loop .i) in-list), l .loop .inv .2)
 
 add-i : tie.Need-add-i Inv-loop μ-loop
 add-i c = search needs
@@ -73,7 +72,7 @@ loop-again c =
     let in-list : l .loop .i < length (errorsOf es) = omega (arith, error-count es) in
     let entry = error-at es (l .loop .i) (omega arith) ∙ sym (e .error-at .ensures) in
     let here : errAt (errorsOf es) (l .loop .i) .place ≡ a .k = rw entry (r .before .before .if1 .left) in
-    let taken = strike-taken (a .d) (a .n) (errorsOf es) (a .k) (now (a .t)) in (
+    let taken = strike-taken (a .d) (a .n) (errorsOf es) (a .k) (plain (a .d) (a .n) (now (a .t))) in (
       passing-more (l .loop .inv .0) in-list here,
       rw (taken-more taken (l .loop .i) here, ← l .loop .inv .1, entry) (r .error-rows .ensures .0),
       r .error-rows .ensures .1,
@@ -90,7 +89,7 @@ returns-2 c =
     let a = s .args in
     let es = now (a .errors) in
     let end = passing-last (l .loop .inv .0) (omega (arith, error-count es)) in
-    (l .loop .inv .1 ∙ sym (taken-after (strike-taken (a .d) (a .n) (errorsOf es) (a .k) (now (a .t))) end), l .loop .inv .2, end)
+    (l .loop .inv .1 ∙ sym (taken-after (strike-taken (a .d) (a .n) (errorsOf es) (a .k) (plain (a .d) (a .n) (now (a .t)))) end), l .loop .inv .2, end)
 
 pub strike-spec : {M : Type 1} → statement M
 strike-spec =

@@ -4,10 +4,14 @@ use mathlib.Core.Path.{_≡_, refl}
 use Prim.Native.Nat.{_+_, _-_, _*_, _≤_}
 use native.Mathlib.Omega.{arith}
 use lib.ListN.{length}
+use Rattle.modular.proofs.Listed.{dimension}
 use Rattle.tableau.specs.Tableau.{eachRow, every}
 use Rattle.tableau.proofs.Parts.{each-more, each-all, turn-room, turn-row}
 use Rattle.operation.specs.Error.{errorRow}
-use Rattle.operation.proofs.Error.{error-keeps, error-tableau}
+use Rattle.operation.proofs.Error.{error-keeps}
+use Rattle.validity.proofs.Exactly.{valid-tableau}
+use Rattle.measurement.proofs.Kept.{error-keeps-valid}
+use Rattle.error.proofs.Even.{rows-plain}
 use Rattle.error.proofs.error_rows.Statement.{statement}
 use Rattle.error.proofs.error_rows.Tie as tie
 
@@ -19,7 +23,7 @@ abbrev μ-loop : tie.MeasureT-loop
 μ-loop t₀ e d n m rows i₀ t i = rows - i
 
 reciprocal-requires : tie.Need-reciprocal-requires Inv-loop μ-loop
-reciprocal-requires c κs = (c .before .pre .0, c .before .pre .1)
+reciprocal-requires c κs = let h = dimension _ (c .before .pre .0) in (h .low, h .high)
 
 mul-rows : tie.Need-mul-rows Inv-loop μ-loop
 mul-rows c = omega arith
@@ -32,10 +36,11 @@ error-at-requires : tie.Need-error-at-requires Inv-loop μ-loop
 error-at-requires c κs =
     let s = c .before .before .before .before .before in
     let l = c .before .before .loop in
+    let t = valid-tableau _ _ _ (s .pre .3) in
     let k = error-keeps (s .args .d) (s .args .n) (s .args .e) in (
-      turn-room _ _ _ k _ (s .pre .4) (l .i) (omega arith) _ (l .inv .2),
-      s .pre .3,
-      turn-row _ _ _ k _ (s .pre .4) (l .i) (omega arith) _ (l .inv .2),
+      turn-room _ _ _ k _ t (l .i) (omega arith) _ (l .inv .2),
+      s .pre .2,
+      turn-row _ _ _ k _ t (l .i) (omega arith) _ (l .inv .2),
       c .before .before .before .reciprocal .ensures,
     )
 
@@ -58,8 +63,11 @@ same-length c = c .before .loop .inv .1
 returns : tie.Need-returns Inv-loop μ-loop
 returns c =
     let s = c .before .before .before .before in
-    let e = each-all _ _ _ _ _ _ (c .before .loop .inv .2) (c .before .loop .inv .0) (c .loop-test .left) in
-    (e, rw e (error-tableau _ _ (s .args .e) _ (omega arith) (s .pre .4)))
+    let dim = dimension _ (s .pre .0) in
+    let e = each-all _ _ _ _ _ _ (c .before .loop .inv .2) (c .before .loop .inv .0) (c .loop-test .left) in (
+      rw e (rows-plain _ _ dim (s .args .e) (s .pre .2) _ (s .pre .3)),
+      rw e (error-keeps-valid _ _ dim (s .args .e) (s .pre .2) _ (s .pre .3)),
+    )
 
 pub error-rows-spec : {M : Type 1} → statement M
 error-rows-spec =

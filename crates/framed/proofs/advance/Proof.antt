@@ -8,6 +8,7 @@ use lib.ListN.{length}
 use borrow.Author.Needs.{needs}
 use borrow.Author.Tests.{not-true, not-false}
 use Rattle.modular.proofs.Listed.{dimension}
+use Rattle.even.specs.Even.{plain}
 use Rattle.circuit.specs.Circuit.{tally}
 use Rattle.book.specs.Decoded.{operationsOf, errorsOf}
 use Rattle.book.proofs.Lists.{op-count, step-taken, step-refused}
@@ -19,7 +20,7 @@ use Rattle.framed.proofs.advance.Tie as tie
 strike-requires : tie.Need-strike-requires
 strike-requires c κs =
     let s = c .before .before .before .before .before .before .before in
-    (dimension (s .args .d) (s .pre .1) .high, s .pre .8, s .pre .5, s .pre .4 .strikes, s .pre .4 .in-order)
+    (dimension (s .args .d) (s .pre .1 .dimension) .high, s .pre .5, s .pre .2, s .pre .1 .lists .strikes, s .pre .1 .lists .in-order)
 
 step-at-requires : tie.Need-step-at-requires
 step-at-requires c κs = search needs
@@ -39,7 +40,7 @@ returns c =
     let s = p .before .before .before .before .before .before .before .before .before .before .before in
     let a = s .args in
     absurd
-    (step-refused (a .d) (a .n) (now (a .ops)) (a .k) (s .pre .3 (a .k) (s .pre .0)) (p .step-at .ensures) (c .enum-told .given .1))
+    (step-refused (a .d) (a .n) (now (a .ops)) (a .k) (s .pre .0) (s .pre .1 .lists .operations (a .k) (omega (arith, s .pre .0, op-count (a .d) (a .n) (now (a .ops))))) (p .step-at .ensures) (c .enum-told .given .1))
 
 perform-requires : tie.Need-perform-requires
 perform-requires c κs =
@@ -50,14 +51,14 @@ perform-requires c κs =
     let a = s .args in
     let o = step-taken (a .d) (a .n) (now (a .ops)) (a .k) (s .pre .0) (p .step-at .ensures) (m .step .given .1) in
     let in-list : a .k < length (operationsOf (a .d) (a .n) (now (a .ops))) = omega (arith, s .pre .0, op-count (a .d) (a .n) (now (a .ops))) in (
-      s .pre .1,
-      s .pre .2,
-      rw (← o) (s .pre .4 .operations (a .k) in-list),
-      omega (arith, s .pre .6, choice-left (s .pre .4) (a .k) in-list, ap tally o),
-      s .pre .7,
-      s .pre .4 .below,
+      s .pre .1 .dimension,
+      s .pre .1 .qudits,
+      rw (← o) (s .pre .1 .lists .operations (a .k) in-list),
+      omega (arith, s .pre .3, choice-left (s .pre .1 .lists) (a .k) in-list, ap tally o),
+      s .pre .4,
+      s .pre .1 .lists .below,
       k .strike .ensures .1,
-      s .pre .9,
+      s .pre .6,
     )
 
 same-length-2 : tie.Need-same-length-2
@@ -79,8 +80,8 @@ returns-2 c =
     let a = s .args in
     let o = step-taken (a .d) (a .n) (now (a .ops)) (a .k) (s .pre .0) (p .step-at .ensures) (m .step .given .1) in
     let after = f .perform .ensures in (
-      step-is (a .d) (a .n) (operationsOf (a .d) (a .n) (now (a .ops))) (errorsOf (now (a .errors))) (now (a .choices)) (a .k) (now (a .t))
-          (now (a .results)) (now (a .frame)) o (s .pre .6) (k .strike .ensures .0)
+      step-is (a .d) (a .n) (operationsOf (a .d) (a .n) (now (a .ops))) (errorsOf (now (a .errors))) (now (a .choices)) (a .k) (plain (a .d) (a .n) (now (a .t)))
+          (now (a .results)) (now (a .frame)) o (s .pre .3) (k .strike .ensures .0)
           (rw (not-true (f .perform .result) (c .if1 .taken)) at (after .0)),
       refl,
       after .1,
@@ -100,7 +101,7 @@ add-measurements c =
     let a = s .args in
     let o = step-taken (a .d) (a .n) (now (a .ops)) (a .k) (s .pre .0) (p .step-at .ensures) (m .step .given .1) in
     let in-list : a .k < length (operationsOf (a .d) (a .n) (now (a .ops))) = omega (arith, s .pre .0, op-count (a .d) (a .n) (now (a .ops))) in
-    omega (arith, c .tally .ensures .0, s .pre .6, choice-left (s .pre .4) (a .k) in-list, ap tally o)
+    omega (arith, c .tally .ensures .0, s .pre .3, choice-left (s .pre .1 .lists) (a .k) in-list, ap tally o)
 
 same-length-5 : tie.Need-same-length-5
 same-length-5 c = search needs
@@ -122,10 +123,10 @@ returns-3 c =
     let ops = operationsOf (a .d) (a .n) (now (a .ops)) in
     let o = step-taken (a .d) (a .n) (now (a .ops)) (a .k) (s .pre .0) (p .step-at .ensures) (m .step .given .1) in
     let after = f .perform .ensures in (
-      step-is (a .d) (a .n) ops (errorsOf (now (a .errors))) (now (a .choices)) (a .k) (now (a .t)) (now (a .results)) (now (a .frame)) o
-          (s .pre .6) (k .strike .ensures .0)
+      step-is (a .d) (a .n) ops (errorsOf (now (a .errors))) (now (a .choices)) (a .k) (plain (a .d) (a .n) (now (a .t))) (now (a .results)) (now (a .frame)) o
+          (s .pre .3) (k .strike .ensures .0)
           (rw (not-false (f .perform .result) (c .before .if1 .left)) at (after .0)),
-      (k .strike .ensures .3, omega (arith, c .tally .ensures .0, s .pre .6, measured-step ops (a .k), ap tally o)),
+      (k .strike .ensures .3, omega (arith, c .tally .ensures .0, s .pre .3, measured-step ops (a .k), ap tally o)),
       after .1,
       after .2,
       after .3 ∙ k .strike .ensures .2,

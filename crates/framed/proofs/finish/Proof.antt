@@ -1,9 +1,8 @@
 -- `framed::finish` meets its contract. The written shifts are all 0 exactly if the verdict is clean.
 -- Assumes nothing.
-use mathlib.Core.Path.{_≡_, refl, sym, ap, _∙_}
-use mathlib.Core.Bool.{Bool}
+use mathlib.Core.Path.{_≡_, sym, ap, _∙_}
 use mathlib.Core.List.{List, _++_}
-use Prim.Native.Nat.{ℕ, zero, suc, _*_, _<_}
+use Prim.Native.Nat.{ℕ, _*_}
 use native.Mathlib.Omega.{arith}
 use denote.Ref.{now}
 use lib.Dec.{eqb}
@@ -13,6 +12,7 @@ use borrow.Author.Needs.{needs}
 use Rattle.row.specs.Row.{tab}
 use Rattle.row.proofs.Fill.{tab-length, tab-get}
 use Rattle.search.specs.Search.{all}
+use Rattle.search.proofs.Search.{all-same}
 use Rattle.run.specs.Frame.{shiftAt, noShift, verdictOf}
 use Rattle.framed.specs.Progress.{isZero}
 use Rattle.framed.proofs.finish.Statement.{statement}
@@ -48,11 +48,6 @@ same-length-2 c = search needs
 
 same-length-3 : tie.Need-same-length-3
 same-length-3 c = search needs
-
-all-same : (f g : ℕ → Bool) (m : ℕ) → ((i : ℕ) → i < m → f i ≡ g i) → all f m ≡ all g m
-unfolding all
-all-same f g zero h = refl
-all-same f g (suc m) h = rw (all-same f g m (λ i l. h i (omega arith)), h m (omega arith))
 
 written : (d n : ℕ) (F t rest : List ℕ) → all (isZero (tab (shiftAt d n F t) (2 * n) ++ rest)) (2 * n) ≡ all (noShift d n F t) (2 * n)
 written d n F t rest =

@@ -4,7 +4,7 @@ use native.Mathlib.Omega.{arith}
 use denote.Ref.{now}
 use borrow.Author.Needs.{needs}
 use Rattle.modular.proofs.Listed.{dimension}
-use Rattle.book.proofs.Handed.{handed}
+use Rattle.book.proofs.Handed.{handed, bodies-of}
 use Rattle.framed.specs.FrameBook.{Buffers, frameTold, frameBook}
 use Rattle.framed.proofs.Books.{short-book, room, invalid-book, rows, run-book}
 use Rattle.framed.proofs.frame_run.Statement.{statement}
@@ -126,10 +126,7 @@ run-requires c κs =
     let b1 = p .before .before .part-of .ensures in
     let b2 = p .before .part-of2 .ensures in
     let b3 = p .part-of3 .ensures in (
-      g .dimension,
-      g .qudits,
-      λ i h. rw b1 (g .good i (rw b1 at h)),
-      rw (b1, b2, b3) (g .lists),
+      bodies-of book g b1 b2 b3,
       rw (b3, g .room) (r .results),
       r .shifts,
       r .frame,

@@ -1,9 +1,8 @@
 -- `framed::is_roomy` meets its contract.
 -- Assumes nothing.
-use Prim.Native.Nat.{_+_, _*_, _≤_}
-use native.Mathlib.Nat.{mul-le-mul}
 use native.Mathlib.Omega.{arith}
 use borrow.Author.Needs.{needs}
+use Rattle.tableau.proofs.Sized.{sized-bytes}
 use Rattle.measure.proofs.Room.{halves}
 use Rattle.framed.specs.FrameBook.{frameRoomy}
 use Rattle.framed.proofs.is_roomy.Statement.{statement}
@@ -19,11 +18,7 @@ add-result : tie.Need-add-result
 add-result c = search needs
 
 mul-result-3 : tie.Need-mul-result-3
-mul-result-3 c =
-    let n = c .args .n in
-    let a : 2 * n ≤ 128 = omega arith in
-    let b : 2 * n + 1 ≤ 129 = omega arith in
-    omega (arith, mul-le-mul a b)
+mul-result-3 c = omega (arith, sized-bytes (c .args .n) (c .pre))
 
 mul-result-4 : tie.Need-mul-result-4
 mul-result-4 c = search needs

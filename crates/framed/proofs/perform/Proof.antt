@@ -7,6 +7,7 @@ use denote.Ref.{now}
 use lib.ListN.{length}
 use borrow.Author.Needs.{needs}
 use borrow.Author.Tests.{ltb-true}
+use Rattle.even.specs.Even.{plain}
 use Rattle.circuit.proofs.Gates.{is-gate}
 use Rattle.look.specs.Look.{look}
 use Rattle.run.specs.Frame.{framedKind}
@@ -59,7 +60,7 @@ returns c =
     let o = m .before .before .before .before .before .before in
     let s = o .before .before .before .before .before .before in
     let a = s .args in
-    let t = now (a .t) in
+    let t = plain (a .d) (a .n) (now (a .t)) in
     let F = now (a .frame) in
     let q = o .operation .given .0 .0 in (
       rw (o .operation .given .1)

@@ -16,19 +16,16 @@ use Rattle.framed.proofs.run_in.Tie as tie
 carry-requires : tie.Need-carry-requires
 carry-requires c κs =
     let s = c .before .before .before .before .before .before .before .before .before .before .before in
-    let dim = dimension (s .args .d) (s .pre .0) in
+    let dim = dimension (s .args .d) (s .pre .0 .dimension) in
     let m = 2 * s .args .n in (
       s .pre .0,
       s .pre .1,
-      s .pre .2,
-      s .pre .3,
-      s .pre .4,
-      rw (s .pre .7)
+      rw (s .pre .4)
           (record {
             room = omega (arith, length-replicate {A = ℕ} m 0);
             below = λ i l. omega (arith, getD-replicate {A = ℕ} m i 0 0 l);
           }),
-      s .pre .8,
+      s .pre .5,
     )
 
 enum-known-carried : tie.Need-enum-known-carried
@@ -54,23 +51,23 @@ returns c =
     let ops = operationsOf (a .d) (a .n) (now (a .ops)) in
     let after = rw (c .before .carried2 .given .1) at (v .carry .ensures) in
     run-stops (a .d) (a .n) ops (errorsOf (now (a .errors))) (now (a .choices)) (measured ops (length ops))
-    (record { tableau = now (a .t); results = now (a .results); shifts = now (a .shifts); frame = now (a .out) }) (s .pre .7)
+    (record { tableau = now (a .t); results = now (a .results); shifts = now (a .shifts); frame = now (a .out) }) (s .pre .4)
     (after .0) (after .1)
 
 finish-requires : tie.Need-finish-requires
 finish-requires c κs =
     let v = c .before .before .before .before .before .before .before .before .before .before .before .before .before in
     let s = v .before .before .before .before .before .before .before .before .before .before .before .before in
-    let dim = dimension (s .args .d) (s .pre .0) in
+    let dim = dimension (s .args .d) (s .pre .0 .dimension) in
     let after = v .carry .ensures in (
       omega arith,
       dim .high,
-      s .pre .1,
-      s .pre .5,
-      s .pre .6,
+      s .pre .0 .qudits,
+      s .pre .2,
+      s .pre .3,
       after .2,
       after .3,
-      after .4 ∙ ap length (s .pre .7) ∙ length-replicate {A = ℕ} (2 * s .args .n) 0,
+      after .4 ∙ ap length (s .pre .4) ∙ length-replicate {A = ℕ} (2 * s .args .n) 0,
     )
 
 same-length-4 : tie.Need-same-length-4
@@ -99,7 +96,7 @@ returns-2 c =
     let after = rw (k .carried .given .1) at (v .carry .ensures) in
     let e = f .finish .ensures in
     run-ends (a .d) (a .n) ops (errorsOf (now (a .errors))) (now (a .choices)) (measured ops (length ops))
-    (record { tableau = now (a .t); results = now (a .results); shifts = now (a .shifts); frame = now (a .out) }) (s .pre .7)
+    (record { tableau = now (a .t); results = now (a .results); shifts = now (a .shifts); frame = now (a .out) }) (s .pre .4)
     (after .0) (after .1) (e .0) (e .1) (e .2) (e .3)
 
 pub run-in-spec : {M : Type 1} → statement M

@@ -29,7 +29,7 @@ part-shift-row-end c = search needs
 
 shift-row-requires : tie.Need-shift-row-requires
 unfolding part
-shift-row-requires c κs = let p = c .before .before .before .pre in (p .0, p .1, p .2, simp add-sub-cancel-left (p .4), p .5)
+shift-row-requires c κs = let p = c .before .before .before .pre in (p .0, simp add-sub-cancel-left (p .2), p .3, p .4)
 
 same-length : tie.Need-same-length
 same-length c = search needs

@@ -14,7 +14,7 @@ mul-last : tie.Need-mul-last
 mul-last c = search needs
 
 pairing-requires : tie.Need-pairing-requires
-pairing-requires c κs = let p = c .before .before .before .pre in (p .0, p .1, p .2, p .4, powers-of (p .3))
+pairing-requires c κs = let p = c .before .before .before .pre in (p .0, p .2, powers-of (p .1), p .3)
 
 slice-read-add : tie.Need-slice-read-add
 slice-read-add c = search needs
@@ -23,8 +23,8 @@ add-requires : tie.Need-add-requires
 unfolding pairing
 add-requires c κs =
     let s = c .before .before .before .before .before in
-    let small : c .before .pairing .result < s .args .d = rw (c .before .pairing .ensures) (mod-lt _ (s .pre .0)) in
-    (s .pre .1, s .pre .3 .below _ (omega arith), omega arith)
+    let small : c .before .pairing .result < s .args .d = rw (c .before .pairing .ensures) (mod-lt _ (omega (arith, s .pre .3 .low))) in
+    (s .pre .3 .high, s .pre .1 .below _ (omega arith), omega arith)
 
 slice-write-v : tie.Need-slice-write-v
 slice-write-v c = search needs

@@ -17,14 +17,17 @@ use Rattle.framed.proofs.shift_rows.Statement.{statement}
 use Rattle.framed.proofs.shift_rows.Tie as tie
 
 abbrev Inv-loop : tie.InvT-loop
-Inv-loop t₀ shifts₀ frame d n rows i₀ t shifts i =
+Inv-loop t₀ shifts₀ frame d n m rows i₀ t shifts i =
     (i ≤ 2 * n)
     × (length t ≡ length t₀)
     × (t ≡ eachRow (every (shiftRow d n frame)) (2 * n + 1) t₀ i)
     × Filled (shiftAt d n frame t₀) shifts₀ i shifts
 
 abbrev μ-loop : tie.MeasureT-loop
-μ-loop t₀ shifts₀ frame d n rows i₀ t shifts i = 2 * n - i
+μ-loop t₀ shifts₀ frame d n m rows i₀ t shifts i = 2 * n - i
+
+wide-reciprocal-requires : tie.Need-wide-reciprocal-requires Inv-loop μ-loop
+wide-reciprocal-requires c κs = search needs
 
 mul-rows : tie.Need-mul-rows Inv-loop μ-loop
 mul-rows c = search needs
@@ -36,14 +39,13 @@ loop-holds c = (omega arith, refl, refl, filled-none _ _)
 shift-at-requires : tie.Need-shift-at-requires Inv-loop μ-loop
 shift-at-requires c κs =
     let l = c .before .before .loop in
-    let s = c .before .before .before .before .before .before in
+    let s = c .before .before .before .before .before .before .before in
     let k = shift-keeps (s .args .d) (s .args .n) (now (s .args .frame)) in (
-      s .pre .0,
-      s .pre .1,
       s .pre .2,
       turn-room _ _ _ k _ (s .pre .4) (l .i) (omega arith) _ (l .inv .2),
       turn-row _ _ _ k _ (s .pre .4) (l .i) (omega arith) _ (l .inv .2),
       s .pre .5,
+      c .before .before .before .wide-reciprocal .ensures,
     )
 
 slice-write-shifts : tie.Need-slice-write-shifts Inv-loop μ-loop
@@ -59,7 +61,7 @@ loop-again : tie.Need-loop-again Inv-loop μ-loop
 loop-again c =
     let r = c .before .before in
     let l = r .before .before .before in
-    let s = l .before .before .before .before in
+    let s = l .before .before .before .before .before in
     let a = s .args in
     let F = now (a .frame) in
     let i = l .loop .i in
@@ -91,6 +93,7 @@ shift-rows-spec =
     (tie.spec
     Inv-loop
     μ-loop
+    wide-reciprocal-requires
     mul-rows
     loop-holds
     shift-at-requires

@@ -29,7 +29,7 @@ part-gate-row-end c = search needs
 
 gate-row-requires : tie.Need-gate-row-requires
 unfolding part
-gate-row-requires c κs = let p = c .before .before .pre in (p .1, p .2, simp add-sub-cancel-left (p .3), p .4)
+gate-row-requires c κs = let p = c .before .before .before .before .pre in (p .1, p .2, simp add-sub-cancel-left (p .3), p .4)
 
 same-length : tie.Need-same-length
 same-length c = search needs

@@ -1,80 +1,85 @@
--- `gate::gate_rows` meets its contract. The loop's invariant: the rows below i are done.
+-- `gate::gate_rows` meets its contract.
 -- Assumes nothing.
-use mathlib.Core.Path.{_≡_, refl}
-use Prim.Native.Nat.{_+_, _-_, _*_, _≤_}
 use native.Mathlib.Omega.{arith}
-use lib.ListN.{length}
+use borrow.Author.Needs.{needs}
 use Rattle.modular.proofs.Listed.{dimension}
-use Rattle.tableau.specs.Tableau.{eachRow, every}
-use Rattle.tableau.proofs.Parts.{each-more, each-all, turn-room, turn-row}
-use Rattle.operation.specs.Gate.{gateRow}
-use Rattle.operation.proofs.Gate.{gate-keeps, gate-tableau}
+use Rattle.validity.proofs.Exactly.{valid-tableau}
+use Rattle.gate.proofs.Even.{rows-plain, rows-valid}
+use Rattle.gate.proofs.Tables.{zeros, factor-small, fraction-small}
 use Rattle.gate.proofs.gate_rows.Statement.{statement}
 use Rattle.gate.proofs.gate_rows.Tie as tie
 
-abbrev Inv-loop : tie.InvT-loop
-Inv-loop t₀ operation d n m rows i₀ t i =
-    (i ≤ rows) × (length t ≡ length t₀) × (t ≡ eachRow (every (gateRow d n operation)) (2 * n + 1) t₀ i)
+slice-aggregate-make-table : tie.Need-slice-aggregate-make-table
+slice-aggregate-make-table c = search needs
 
-abbrev μ-loop : tie.MeasureT-loop
-μ-loop t₀ operation d n m rows i₀ t i = rows - i
+factor-of-requires : tie.Need-factor-of-requires
+factor-of-requires c κs = search needs
 
-reciprocal-requires : tie.Need-reciprocal-requires Inv-loop μ-loop
-reciprocal-requires c κs = let h = dimension _ (c .before .pre .0) in (h .low, h .high)
+make-table-requires : tie.Need-make-table-requires
+make-table-requires c κs =
+    let s = c .before .before .before in
+    let dim = dimension _ (s .pre .0) in
+    let l = factor-small dim (s .args .n) (s .args .operation) (s .pre .2) in
+    (dim .low, dim .high, omega (arith, c .factor-of .ensures), omega arith, zeros _ 64)
 
-mul-rows : tie.Need-mul-rows Inv-loop μ-loop
-mul-rows c = omega arith
+slice-aggregate-make-table-2 : tie.Need-slice-aggregate-make-table-2
+slice-aggregate-make-table-2 c = search needs
 
-loop-holds : tie.Need-loop-holds Inv-loop μ-loop
-unfolding eachRow
-loop-holds c = (omega arith, refl, refl)
+fraction-of-requires : tie.Need-fraction-of-requires
+fraction-of-requires c κs =
+    let s = c .before .before .before .before .before .before in
+    (s .pre .0, factor-small (dimension _ (s .pre .0)) (s .args .n) (s .args .operation) (s .pre .2))
 
-gate-at-requires : tie.Need-gate-at-requires Inv-loop μ-loop
-gate-at-requires c κs =
-    let s = c .before .before .before .before .before in
-    let l = c .before .before .loop in
-    let k = gate-keeps (s .args .d) (s .args .n) (s .args .operation) in (
-      turn-room _ _ _ k _ (s .pre .3) (l .i) (omega arith) _ (l .inv .2),
+make-table-requires-2 : tie.Need-make-table-requires-2
+make-table-requires-2 c κs =
+    let s = c .before .before .before .before .before .before .before in
+    let dim = dimension _ (s .pre .0) in
+    let l = fraction-small dim (s .args .operation) in
+    (dim .low, dim .high, omega (arith, c .fraction-of .ensures), omega arith, zeros _ 32)
+
+slice-aggregate-gate-all : tie.Need-slice-aggregate-gate-all
+slice-aggregate-gate-all c = search needs
+
+slice-aggregate-gate-all-2 : tie.Need-slice-aggregate-gate-all-2
+slice-aggregate-gate-all-2 c = search needs
+
+gate-all-requires : tie.Need-gate-all-requires
+gate-all-requires c κs =
+    let s = c .before .before .before .before .before .before .before .before .before .before .before .before in (
+      dimension _ (s .pre .0) .high,
+      s .pre .1,
       s .pre .2,
-      s .pre .0,
-      turn-row _ _ _ k _ (s .pre .3) (l .i) (omega arith) _ (l .inv .2),
-      c .before .before .before .reciprocal .ensures,
+      valid-tableau _ _ _ (s .pre .3),
+      record {
+        first = rw (← c .before .before .before .before .before .before .before .before .before .factor-of .ensures) (c .before .before .before .before .before .before .before .before .make-table .ensures);
+        second = rw (← c .before .before .before .before .before .fraction-of .ensures) (c .before .before .before .before .make-table2 .ensures);
+      },
     )
 
-add-i : tie.Need-add-i Inv-loop μ-loop
-add-i c = omega arith
+same-length : tie.Need-same-length
+same-length c = search needs
 
-loop-less : tie.Need-loop-less Inv-loop μ-loop
-loop-less c = omega arith
-
-loop-again : tie.Need-loop-again Inv-loop μ-loop
-loop-again c = (
-  omega arith,
-  omega arith,
-  each-more _ _ _ _ _ _ (c .before .before .before .before .before .loop .inv .2) (c .before .before .gate-at .ensures),
-)
-
-same-length : tie.Need-same-length Inv-loop μ-loop
-same-length c = c .before .loop .inv .1
-
-returns : tie.Need-returns Inv-loop μ-loop
+returns : tie.Need-returns
 returns c =
-    let s = c .before .before .before .before in
-    let e = each-all _ _ _ _ _ _ (c .before .loop .inv .2) (c .before .loop .inv .0) (c .loop-test .left) in
-    (e, rw e (gate-tableau _ _ (omega (arith, dimension _ (s .pre .0) .low)) (s .args .operation) _ (s .pre .2) (s .pre .3)))
+    let s = c .before .before .before .before .before .before .before .before .before .before .before .before .before .before .before in
+    let dim = dimension _ (s .pre .0) in
+    let e = c .before .before .gate-all .ensures in (
+      rw e (rows-plain _ _ dim (s .args .operation) (s .pre .2) _ (s .pre .3)),
+      rw e (rows-valid _ _ dim (s .args .operation) (s .pre .2) _ (s .pre .3)),
+    )
 
 pub gate-rows-spec : {M : Type 1} → statement M
 gate-rows-spec =
     tie.close
     (tie.spec
-    Inv-loop
-    μ-loop
-    reciprocal-requires
-    mul-rows
-    loop-holds
-    gate-at-requires
-    add-i
-    loop-less
-    loop-again
+    slice-aggregate-make-table
+    factor-of-requires
+    make-table-requires
+    slice-aggregate-make-table-2
+    fraction-of-requires
+    make-table-requires-2
+    slice-aggregate-gate-all
+    slice-aggregate-gate-all-2
+    gate-all-requires
     same-length
     returns)

@@ -1,7 +1,10 @@
 -- `look::look_at` meets its contract.
 -- Assumes nothing.
 use borrow.Author.Needs.{needs}
+use Rattle.modular.proofs.Listed.{dimension}
+use Rattle.validity.proofs.Exactly.{valid-tableau}
 use Rattle.look.specs.Look.{look}
+use Rattle.look.proofs.Even.{pivot-plain, weighted-plain}
 use Rattle.look.proofs.look_at.Statement.{statement}
 use Rattle.look.proofs.look_at.Tie as tie
 
@@ -13,17 +16,27 @@ enum-known-pivot c = search needs
 
 returns : tie.Need-returns
 unfolding look
-returns c = rw (← c .before .before .before .pivot-of .ensures, c .before .pivot .given .1)
+returns c =
+    let s = c .before .before .before .before .before in
+    let a = s .args in
+    rw (pivot-plain (a .d) (a .n) (a .t .now) (s .pre .3 .room) (a .q) (s .pre .1), ← c .before .before .before .pivot-of .ensures, c .before .pivot .given .1)
 
 enum-told : tie.Need-enum-told
 enum-told c = search needs
 
 certain-requires : tie.Need-certain-requires
-certain-requires c κs = search needs
+certain-requires c κs =
+    let s = c .before .before .before .before in
+    let d = dimension _ (s .pre .0) in
+    (d .low, d .high, s .pre .1, s .pre .2, valid-tableau _ _ _ (s .pre .3))
 
 returns-2 : tie.Need-returns-2
 unfolding look
-returns-2 c = rw (← c .before .before .before .pivot-of .ensures, c .before .enum-told .given .1) (c .certain .ensures)
+returns-2 c =
+    let s = c .before .before .before .before .before in
+    let a = s .args in
+    rw (pivot-plain (a .d) (a .n) (a .t .now) (s .pre .3 .room) (a .q) (s .pre .1), ← c .before .before .before .pivot-of .ensures, c .before .enum-told .given .1, ← weighted-plain (a .d) (a .n) (dimension _ (s .pre .0)) (a .t .now) (s .pre .3) (a .q) (s .pre .1))
+    (c .certain .ensures)
 
 pub look-at-spec : {M : Type 1} → statement M
 look-at-spec =

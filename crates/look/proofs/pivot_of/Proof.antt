@@ -4,7 +4,6 @@ use mathlib.Core.Path.{_≡_, refl, sym, ap, _∙_}
 use Prim.Native.Nat.{_+_, _-_, _*_, _<_, _≤_}
 use native.Mathlib.Nat.{le-antisymm}
 use native.Mathlib.Omega.{arith}
-use borrow.Author.Needs.{needs}
 use borrow.Author.Tests.{eq-eqb, ne-eqb}
 use Rattle.search.specs.declared.Place.the-variants.{Nowhere}
 use Rattle.search.specs.Search.{firstNot}
@@ -21,17 +20,17 @@ abbrev μ-loop : tie.MeasureT-loop
 μ-loop t q n w k₀ k = n - k
 
 mul-w : tie.Need-mul-w Inv-loop μ-loop
-mul-w c = search needs
+mul-w c = omega arith
 
 add-w : tie.Need-add-w Inv-loop μ-loop
-add-w c = search needs
+add-w c = omega arith
 
 loop-holds : tie.Need-loop-holds Inv-loop μ-loop
 unfolding firstNot
 loop-holds c = (omega arith, refl)
 
 add-at : tie.Need-add-at Inv-loop μ-loop
-add-at c = search needs
+add-at c = omega arith
 
 mul-at : tie.Need-mul-at Inv-loop μ-loop
 mul-at c = let s = c .before .before in omega (arith, row-room _ (s .args .t .now) (s .pre .2) (s .args .n + c .before .loop .k) (omega arith))
@@ -53,10 +52,10 @@ returns c =
     found _ _ (l .k) (c .before .before .loop-test .taken) (l .inv .1) (rw row-at (ne-eqb _ _ (c .if1 .taken)))
 
 add-k : tie.Need-add-k Inv-loop μ-loop
-add-k c = search needs
+add-k c = omega arith
 
 loop-less : tie.Need-loop-less Inv-loop μ-loop
-loop-less c = search needs
+loop-less c = omega arith
 
 loop-again : tie.Need-loop-again Inv-loop μ-loop
 loop-again c =

@@ -1,115 +1,113 @@
--- `look::weigh` meets its contract. A power 0 is ω^0, which leaves a row as it is.
+-- `look::weigh` meets its contract.
 -- Assumes nothing.
-use mathlib.Core.Path.{sym, ap, _∙_}
-use Prim.Native.Nat.{ℕ, _+_, _*_, _≤_}
-use native.Mathlib.Nat.{add-sub-cancel-left}
+use mathlib.Core.Path.{_≡_, ap₂, _∙_}
+use Prim.Native.Nat.{_+_, _-_, _*_, _≤_}
+use native.Mathlib.Nat.{mul-le-mul}
 use native.Mathlib.Omega.{arith}
-use lib.ListN.{length}
+use lib.ListN.{getD}
 use borrow.Author.Needs.{needs}
-use Rattle.row.specs.Row.{product, power}
-use Rattle.tableau.specs.Tableau.{part, row}
-use Rattle.tableau.proofs.Parts.{row-in, row-room, row-at, tableau-row}
-use Rattle.weyl.proofs.Laws.{neutral, power-zero}
+use Rattle.row.proofs.Fill.{Filled, filled-none, filled-next, filled-more, filled-all, filled-whole}
+use Rattle.look.specs.Sums.{gainAt}
 use Rattle.look.proofs.weigh.Statement.{statement}
 use Rattle.look.proofs.weigh.Tie as tie
 
--- where destabilizer i and stabilizer i end
-low : (c : tie.Start) → let a = c .args in a .i * (2 * a .n + 1) + (2 * a .n + 1) ≤ length (a .t .now)
-low c = row-room _ (c .args .t .now) (c .pre .5 .room) (c .args .i) (omega arith)
+abbrev Inv-loop : tie.InvT-loop
+Inv-loop sums₀ v h n k₀ k-end sums k = (k ≤ 2 * n + 1) × Filled (gainAt h v sums₀) sums₀ k sums
 
-high : (c : tie.Start) → let a = c .args in (a .n + a .i) * (2 * a .n + 1) + (2 * a .n + 1) ≤ length (a .t .now)
-high c = row-room _ (c .args .t .now) (c .pre .5 .room) (c .args .n + c .args .i) (omega arith)
+abbrev μ-loop : tie.MeasureT-loop
+μ-loop sums₀ v h n k₀ k-end sums k = 2 * n + 1 - k
 
-mul-w : tie.Need-mul-w
-mul-w c = search needs
+-- the sum is as it was
+next :
+    (c : tie.In-loop Inv-loop μ-loop) →
+    getD (c .before .loop .sums) (c .before .loop .k) 0 ≡ getD (c .before .before .before .before .args .sums .now) (c .before .loop .k) 0
+next c = filled-next _ _ _ _ (c .before .loop .inv .1) (omega (arith, c .before .before .before .before .pre .1 .len))
 
-add-w : tie.Need-add-w
-add-w c = search needs
+-- at most 30·30
+product : (c : tie.After-wide2 Inv-loop μ-loop) → c .before .before .wide .result * c .wide2 .result ≤ 30 * 30
+product c =
+    let s = c .before .before .before .before .before .before .before in
+    let k = c .before .before .before .before .loop .k in
+    let a : c .before .before .wide .result ≤ 30 = omega (arith, s .pre .0, c .before .before .wide .ensures) in
+    let b : c .wide2 .result ≤ 30 = omega (arith, c .wide2 .ensures, s .pre .2 .below k (omega arith)) in
+    mul-le-mul a b
 
-mul-at : tie.Need-mul-at
-mul-at c = omega (arith, low (c .before .before .before))
+mul-k-end : tie.Need-mul-k-end Inv-loop μ-loop
+mul-k-end c = omega arith
 
-add-at : tie.Need-add-at
-add-at c = omega (arith, low (c .before .before .before))
+add-k-end : tie.Need-add-k-end Inv-loop μ-loop
+add-k-end c = omega arith
 
-shared-slice-read-h : tie.Need-shared-slice-read-h
-shared-slice-read-h c = omega (arith, low (c .before .before .before .before))
+loop-holds : tie.Need-loop-holds Inv-loop μ-loop
+loop-holds c = (omega arith, filled-none _ _)
 
-add-s : tie.Need-add-s
-add-s c = search needs
+wide-requires : tie.Need-wide-requires Inv-loop μ-loop
+wide-requires c κs = search needs
 
-mul-s : tie.Need-mul-s
-mul-s c = omega (arith, high (c .before .before .before .before .before))
+shared-slice-read-wide : tie.Need-shared-slice-read-wide Inv-loop μ-loop
+shared-slice-read-wide c = omega arith
 
-add-e : tie.Need-add-e
-add-e c = omega (arith, high (c .before .before .before .before .before))
+wide-requires-2 : tie.Need-wide-requires-2 Inv-loop μ-loop
+wide-requires-2 c κs = search needs
 
-sub-multiply : tie.Need-sub-multiply
-sub-multiply c = search needs
+mul-sums : tie.Need-mul-sums Inv-loop μ-loop
+mul-sums c = omega (arith, product c)
 
-part-multiply-start : tie.Need-part-multiply-start
-part-multiply-start c = search needs
+mul-sums-2 : tie.Need-mul-sums-2 Inv-loop μ-loop
+mul-sums-2 c = omega arith
 
-part-multiply-end : tie.Need-part-multiply-end
-part-multiply-end c = omega (arith, high (c .before .before .before .before .before .before .before))
+slice-read-sums : tie.Need-slice-read-sums Inv-loop μ-loop
+slice-read-sums c = omega arith
 
-multiply-requires : tie.Need-multiply-requires
-unfolding part
-multiply-requires c κs =
+add-sums : tie.Need-add-sums Inv-loop μ-loop
+add-sums c =
     let s = c .before .before .before .before .before .before .before .before in
-    let a = s .args in
-    let p = s .pre in (
-      p .5 .below (a .i * (2 * a .n + 1) + a .q) (omega (arith, row-in (a .i) (2 * a .n) (2 * a .n + 1) (omega arith))),
-      p .2,
-      p .3,
-      p .4,
-      simp add-sub-cancel-left (tableau-row _ _ _ (p .5) (a .n + a .i) (omega arith)),
-      p .6,
-    )
+    omega (arith, product (c .before), next (c .before .before .before .before), s .pre .1 .small (c .before .before .before .before .before .loop .k) (omega arith))
 
-same-length : tie.Need-same-length
-same-length c = search needs
+slice-write-sums : tie.Need-slice-write-sums Inv-loop μ-loop
+slice-write-sums c = omega arith
 
-same-length-2 : tie.Need-same-length-2
-same-length-2 c = search needs
+add-k : tie.Need-add-k Inv-loop μ-loop
+add-k c = omega arith
 
-returns : tie.Need-returns
-unfolding part
+loop-less : tie.Need-loop-less Inv-loop μ-loop
+loop-less c = omega arith
+
+loop-again : tie.Need-loop-again Inv-loop μ-loop
+loop-again c =
+    let s = c .before .before .before .before .before .before .before .before in
+    let l = c .before .before .before .before .before .loop in
+    let e : c .before .before .before .wide .result * c .before .wide2 .result ≡ s .args .h * getD (s .args .v .now) (l .k) 0 =
+    ap₂ _*_ (c .before .before .before .wide .ensures) (c .before .wide2 .ensures) in
+    (omega arith, filled-more _ _ _ _ (l .inv .1) (omega arith) _ (ap₂ _+_ (next (c .before .before .before .before)) e))
+
+same-length : tie.Need-same-length Inv-loop μ-loop
+same-length c = c .before .loop .inv .1 .len
+
+returns : tie.Need-returns Inv-loop μ-loop
 returns c =
-    let m = c .before .before .before .before .multiply in
-    let a = c .before .before .before .before .before .before .before .before .before .before .before .before .before .args in
-    (simp (m .ensures .0, add-sub-cancel-left, row-at (a .n) (a .t .now) (a .i) (a .q) (omega arith)), m .ensures .1)
-
-returns-2 : tie.Need-returns-2
-returns-2 c =
-    let s = c .before .before .before .before .before in
-    let a = s .args in
-    let v = a .v .now in
-    let w = row (a .n) (a .t .now) (a .n + a .i) in (
-      sym
-          (ap (λ (x : ℕ). product (a .d) (a .n) v (power (a .d) (a .n) x w)) (row-at (a .n) (a .t .now) (a .i) (a .q) (omega arith) ∙ c .if1 .left)
-          ∙ ap (product (a .d) (a .n) v) (power-zero (a .d) (a .n) (omega (arith, s .pre .6 .low)) w)
-          ∙ neutral (a .d) (a .n) v (s .pre .3) .1),
-      s .pre .4,
-    )
+    filled-all _ _ _ _ _ (c .before .loop .inv .1) (c .before .loop .inv .0) (c .loop-test .left)
+    ∙ filled-whole _ _ _ (c .before .before .before .before .pre .1 .len)
 
 pub weigh-spec : {M : Type 1} → statement M
 weigh-spec =
     tie.close
     (tie.spec
-    mul-w
-    add-w
-    mul-at
-    add-at
-    shared-slice-read-h
-    add-s
-    mul-s
-    add-e
-    sub-multiply
-    part-multiply-start
-    part-multiply-end
-    multiply-requires
+    Inv-loop
+    μ-loop
+    mul-k-end
+    add-k-end
+    loop-holds
+    wide-requires
+    shared-slice-read-wide
+    wide-requires-2
+    mul-sums
+    mul-sums-2
+    slice-read-sums
+    add-sums
+    slice-write-sums
+    add-k
+    loop-less
+    loop-again
     same-length
-    same-length-2
-    returns
-    returns-2)
+    returns)

@@ -1,68 +1,43 @@
 -- `look::weigh_all` meets its contract.
 -- Assumes nothing.
 use mathlib.Core.Path.{_≡_, refl, ap, _∙_}
-use Prim.Native.Nat.{_+_, _-_, _*_, _≤_}
+use Prim.Native.Nat.{_-_, _≤_}
 use native.Mathlib.Nat.{le-antisymm}
 use native.Mathlib.Omega.{arith}
 use lib.ListN.{length}
-use borrow.Author.Needs.{needs}
-use Rattle.look.specs.Look.{destabilizerPower, combination, weighted}
-use Rattle.look.proofs.Combination.{combination-row, combination-more}
+use Rattle.look.specs.Look.{destabilizerPower}
+use Rattle.look.specs.Sums.{weighed}
 use Rattle.look.proofs.weigh_all.Statement.{statement}
 use Rattle.look.proofs.weigh_all.Tie as tie
 
 abbrev Inv-loop : tie.InvT-loop
-Inv-loop v₀ z₀ t q d n m i₀ v z i =
-    (i ≤ n) × (length v ≡ length v₀) × (length z ≡ 2 * n + 1) × (v ≡ combination d n t (destabilizerPower n t q) i)
+Inv-loop sums₀ t q n i₀ sums i = (i ≤ n) × (length sums ≡ length sums₀) × (sums ≡ weighed n t (destabilizerPower n t q) i)
 
 abbrev μ-loop : tie.MeasureT-loop
-μ-loop v₀ z₀ t q d n m i₀ v z i = n - i
-
-reciprocal-requires : tie.Need-reciprocal-requires Inv-loop μ-loop
-reciprocal-requires c κs = search needs
+μ-loop sums₀ t q n i₀ sums i = n - i
 
 loop-holds : tie.Need-loop-holds Inv-loop μ-loop
-unfolding combination
-loop-holds c = let p = c .before .before .before .before .pre in (omega arith, refl, p .5, p .4)
+loop-holds c = (omega arith, refl, c .before .before .pre .3)
 
-weigh-requires : tie.Need-weigh-requires Inv-loop μ-loop
-weigh-requires c κs =
-    let p = c .before .before .before .before .before .before .before .before .pre in
-    let l = c .before .before .before .loop in (
-      c .before .before .loop-test .taken,
-      p .2,
-      p .3,
-      rw (l .inv .3) (combination-row _ _ _ _ (omega arith) (l .i)),
-      l .inv .2,
-      p .6,
-      c .before .before .before .before .reciprocal .ensures,
-    )
+weigh-at-requires : tie.Need-weigh-at-requires Inv-loop μ-loop
+weigh-at-requires c κs =
+    let p = c .before .before .before .before .before .pre in
+    (c .before .loop-test .taken, p .0, p .1, p .2, c .before .before .loop .inv .2)
 
 add-i : tie.Need-add-i Inv-loop μ-loop
-add-i c = search needs
+add-i c = omega arith
 
 loop-less : tie.Need-loop-less Inv-loop μ-loop
-loop-less c = search needs
+loop-less c = omega arith
 
 loop-again : tie.Need-loop-again Inv-loop μ-loop
-loop-again c =
-    let w = c .before .before .before .before .weigh in
-    let l = c .before .before .before .before .before .before .before .before .loop in
-    (omega arith, omega arith, w .ensures .1, combination-more _ _ _ _ _ _ _ (l .inv .3) (w .ensures .0))
+loop-again c = (omega arith, omega arith, c .before .before .weigh-at .ensures)
 
 same-length : tie.Need-same-length Inv-loop μ-loop
-same-length c = search needs
-
-same-length-2 : tie.Need-same-length-2 Inv-loop μ-loop
-same-length-2 c = search needs
+same-length c = c .before .loop .inv .1
 
 returns : tie.Need-returns Inv-loop μ-loop
-unfolding weighted
-returns c =
-    let l = c .before .loop in (
-      l .inv .3 ∙ ap (combination _ _ _ _) (le-antisymm (l .inv .0) (c .loop-test .left)),
-      rw (l .inv .3) (combination-row _ _ _ _ (omega arith) (l .i)),
-    )
+returns c = let l = c .before .loop in l .inv .2 ∙ ap (weighed _ _ _) (le-antisymm (l .inv .0) (c .loop-test .left))
 
 pub weigh-all-spec : {M : Type 1} → statement M
 weigh-all-spec =
@@ -70,12 +45,10 @@ weigh-all-spec =
     (tie.spec
     Inv-loop
     μ-loop
-    reciprocal-requires
     loop-holds
-    weigh-requires
+    weigh-at-requires
     add-i
     loop-less
     loop-again
     same-length
-    same-length-2
     returns)

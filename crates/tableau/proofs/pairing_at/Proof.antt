@@ -16,16 +16,16 @@ add-w : tie.Need-add-w
 add-w c = search needs
 
 mul-a : tie.Need-mul-a
-mul-a c = let s = c .before in omega (arith, row-room _ (s .args .t .now) (s .pre .5 .room) (s .args .i) (s .pre .3))
+mul-a c = let s = c .before in omega (arith, row-room _ (s .args .t .now) (s .pre .3 .room) (s .args .i) (s .pre .1))
 
 add-b : tie.Need-add-b
-add-b c = let s = c .before in omega (arith, row-room _ (s .args .t .now) (s .pre .5 .room) (s .args .i) (s .pre .3))
+add-b c = let s = c .before in omega (arith, row-room _ (s .args .t .now) (s .pre .3 .room) (s .args .i) (s .pre .1))
 
 mul-e : tie.Need-mul-e
-mul-e c = let s = c .before in omega (arith, row-room _ (s .args .t .now) (s .pre .5 .room) (s .args .j) (s .pre .4))
+mul-e c = let s = c .before in omega (arith, row-room _ (s .args .t .now) (s .pre .3 .room) (s .args .j) (s .pre .2))
 
 add-f : tie.Need-add-f
-add-f c = let s = c .before in omega (arith, row-room _ (s .args .t .now) (s .pre .5 .room) (s .args .j) (s .pre .4))
+add-f c = let s = c .before in omega (arith, row-room _ (s .args .t .now) (s .pre .3 .room) (s .args .j) (s .pre .2))
 
 sub-pairing : tie.Need-sub-pairing
 sub-pairing c = search needs
@@ -34,7 +34,7 @@ part-pairing-start : tie.Need-part-pairing-start
 part-pairing-start c = search needs
 
 part-pairing-end : tie.Need-part-pairing-end
-part-pairing-end c = let s = c .before in omega (arith, row-room _ (s .args .t .now) (s .pre .5 .room) (s .args .i) (s .pre .3))
+part-pairing-end c = let s = c .before in omega (arith, row-room _ (s .args .t .now) (s .pre .3 .room) (s .args .i) (s .pre .1))
 
 sub-pairing-2 : tie.Need-sub-pairing-2
 sub-pairing-2 c = search needs
@@ -43,17 +43,16 @@ part-pairing-start-2 : tie.Need-part-pairing-start-2
 part-pairing-start-2 c = search needs
 
 part-pairing-end-2 : tie.Need-part-pairing-end-2
-part-pairing-end-2 c = let s = c .before .before in omega (arith, row-room _ (s .args .t .now) (s .pre .5 .room) (s .args .j) (s .pre .4))
+part-pairing-end-2 c = let s = c .before .before in omega (arith, row-room _ (s .args .t .now) (s .pre .3 .room) (s .args .j) (s .pre .2))
 
 pairing-requires : tie.Need-pairing-requires
 unfolding part
 pairing-requires c κs =
     let s = c .before .before .before in (
       s .pre .0,
-      s .pre .1,
-      s .pre .2,
-      simp add-sub-cancel-left (powers-of (tableau-row _ _ _ (s .pre .5) (s .args .i) (s .pre .3))),
-      simp add-sub-cancel-left (powers-of (tableau-row _ _ _ (s .pre .5) (s .args .j) (s .pre .4))),
+      simp add-sub-cancel-left (powers-of (tableau-row _ _ _ (s .pre .3) (s .args .i) (s .pre .1))),
+      simp add-sub-cancel-left (powers-of (tableau-row _ _ _ (s .pre .3) (s .args .j) (s .pre .2))),
+      s .pre .4,
     )
 
 returns : tie.Need-returns

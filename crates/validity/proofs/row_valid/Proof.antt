@@ -14,10 +14,10 @@ use Rattle.validity.proofs.row_valid.Statement.{statement}
 use Rattle.validity.proofs.row_valid.Tie as tie
 
 abbrev Inv-loop : tie.InvT-loop
-Inv-loop t i d n j₀ j = (j ≤ i) × (all (pairsWell d n t i) j ≡ true)
+Inv-loop t i d m n j₀ j = (j ≤ i) × (all (pairsWell d n t i) j ≡ true)
 
 abbrev μ-loop : tie.MeasureT-loop
-μ-loop t i d n j₀ j = i - j
+μ-loop t i d m n j₀ j = i - j
 
 loop-holds : tie.Need-loop-holds Inv-loop μ-loop
 unfolding all

@@ -14,10 +14,13 @@ use Rattle.validity.proofs.rows_valid.Statement.{statement}
 use Rattle.validity.proofs.rows_valid.Tie as tie
 
 abbrev Inv-loop : tie.InvT-loop
-Inv-loop t d n rows i₀ i = (i ≤ 2 * n) × (all (rowValid d n t) i ≡ true)
+Inv-loop t d n m rows i₀ i = (i ≤ 2 * n) × (all (rowValid d n t) i ≡ true)
 
 abbrev μ-loop : tie.MeasureT-loop
-μ-loop t d n rows i₀ i = 2 * n - i
+μ-loop t d n m rows i₀ i = 2 * n - i
+
+wide-reciprocal-requires : tie.Need-wide-reciprocal-requires Inv-loop μ-loop
+wide-reciprocal-requires c κs = search needs
 
 mul-rows : tie.Need-mul-rows Inv-loop μ-loop
 mul-rows c = search needs
@@ -50,6 +53,7 @@ rows-valid-spec =
     (tie.spec
     Inv-loop
     μ-loop
+    wide-reciprocal-requires
     mul-rows
     loop-holds
     row-valid-requires

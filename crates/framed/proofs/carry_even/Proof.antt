@@ -1,0 +1,152 @@
+-- `framed::carry_even` meets its contract.
+-- Assumes nothing.
+use mathlib.Core.Path.{_≡_, refl, _∙_}
+use Prim.Native.Nat.{_-_, _<_, _≤_}
+use native.Mathlib.Nat.{le-antisymm}
+use native.Mathlib.Omega.{arith}
+use denote.Ref.{now}
+use lib.ListN.{length}
+use borrow.Author.Needs.{needs}
+use Rattle.modular.proofs.Listed.{dimension}
+use Rattle.row.specs.Row.{Powers}
+use Rattle.validity.specs.Validity.{Valid}
+use Rattle.even.specs.Even.{plain}
+use Rattle.book.specs.Decoded.{operationsOf, errorsOf}
+use Rattle.book.proofs.Lists.{op-count}
+use Rattle.run.specs.Frame.{framedStep}
+use Rattle.measure.proofs.Going.{Going, going-start, going-on, going-stops, going-ends}
+use Rattle.framed.proofs.Steps.{all-stops, all-ends}
+use Rattle.framed.proofs.carry_even.Statement.{statement}
+use Rattle.framed.proofs.carry_even.Tie as tie
+
+abbrev Inv-loop : tie.InvT-loop
+Inv-loop t₀ results₀ frame₀ ops errors choices d n count at₀ k₀ t results frame at k =
+    Going (operationsOf d n ops) (errorsOf errors) (framedStep d n (operationsOf d n ops) (errorsOf errors) choices)
+    (record { rows = plain d n t₀; results = results₀; frame = frame₀ }) k at (record { rows = plain d n t; results = results; frame = frame })
+    × (k ≤ count)
+    × Valid d n t
+    × Powers d n frame
+    × (length t ≡ length t₀)
+    × (length results ≡ length results₀)
+    × (length frame ≡ length frame₀)
+
+abbrev μ-loop : tie.MeasureT-loop
+μ-loop t₀ results₀ frame₀ ops errors choices d n count at₀ k₀ t results frame at k = count - k
+
+loop-holds : tie.Need-loop-holds Inv-loop μ-loop
+loop-holds c =
+    let s = c .before .before .before .before .before .before in
+    (going-start _ _ _ _, omega arith, s .pre .3, s .pre .2, refl, refl, refl)
+
+advance-requires : tie.Need-advance-requires Inv-loop μ-loop
+advance-requires c κs =
+    let l = c .before .before .before .before in
+    let s = l .before .before .before .before .before .before .before in
+    let i = l .loop .inv in
+    (c .before .before .before .loop-test .taken, s .pre .0, i .0 .reached, i .0 .count, omega (arith, i .5), i .3, i .2)
+
+enum-known-advanced : tie.Need-enum-known-advanced Inv-loop μ-loop
+enum-known-advanced c = search needs
+
+enum-known-advanced-2 : tie.Need-enum-known-advanced-2 Inv-loop μ-loop
+enum-known-advanced-2 c = search needs
+
+same-length : tie.Need-same-length Inv-loop μ-loop
+same-length c = search needs
+
+same-length-2 : tie.Need-same-length-2 Inv-loop μ-loop
+same-length-2 c = search needs
+
+same-length-3 : tie.Need-same-length-3 Inv-loop μ-loop
+same-length-3 c = search needs
+
+returns : tie.Need-returns Inv-loop μ-loop
+returns c =
+    let v = c .before .before .before .before .before .before .before .before .before in
+    let l = v .before .before .before .before .before in
+    let a = l .before .before .before .before .before .before .before .args in
+    let ops = operationsOf (a .d) (a .n) (now (a .ops)) in
+    let in-list : l .loop .k < length ops = omega (arith, op-count (a .d) (a .n) (now (a .ops))) in
+    let after = rw (c .before .advanced2 .given .1) at (v .advance .ensures) in (
+      all-stops (a .d) (a .n) ops (errorsOf (now (a .errors))) (now (a .choices)) _ (going-stops _ _ _ _ (l .loop .inv .0) in-list (after .0)),
+      after .1,
+      after .2,
+      after .3,
+      after .4 ∙ l .loop .inv .6,
+    )
+
+add-k : tie.Need-add-k Inv-loop μ-loop
+add-k c = search needs
+
+loop-less : tie.Need-loop-less Inv-loop μ-loop
+loop-less c = search needs
+
+loop-again : tie.Need-loop-again Inv-loop μ-loop
+loop-again c =
+    let v = c .before .before .before .before .before .before .before .before .before in
+    let l = v .before .before .before .before .before in
+    let answer = c .before .advanced .given in
+    let after = rw (answer .1) at (v .advance .ensures) in (
+      going-on _ _ _ _ (l .loop .inv .0) (answer .0 .0) (after .0) (after .1),
+      omega arith,
+      after .2,
+      after .3,
+      omega arith,
+      omega arith,
+      after .4 ∙ l .loop .inv .6,
+    )
+
+strike-requires : tie.Need-strike-requires Inv-loop μ-loop
+strike-requires c κs =
+    let l = c .before .before in
+    let s = l .before .before .before .before .before .before .before in
+    (dimension (s .args .d) (s .pre .0 .dimension) .high, l .loop .inv .3, l .loop .inv .0 .reached, s .pre .0 .lists .strikes, s .pre .0 .lists .in-order)
+
+same-length-4 : tie.Need-same-length-4 Inv-loop μ-loop
+same-length-4 c = search needs
+
+same-length-5 : tie.Need-same-length-5 Inv-loop μ-loop
+same-length-5 c = search needs
+
+same-length-6 : tie.Need-same-length-6 Inv-loop μ-loop
+same-length-6 c = search needs
+
+returns-2 : tie.Need-returns-2 Inv-loop μ-loop
+returns-2 c =
+    let k = c .before .before in
+    let l = k .before .before .before in
+    let a = l .before .before .before .before .before .before .before .args in
+    let ops = operationsOf (a .d) (a .n) (now (a .ops)) in
+    let low : l .loop .k ≤ length ops = omega (arith, op-count (a .d) (a .n) (now (a .ops))) in
+    let high : length ops ≤ l .loop .k = omega (arith, op-count (a .d) (a .n) (now (a .ops))) in
+    let g = going-ends _ _ _ _ (l .loop .inv .0) low high in (
+      all-ends (a .d) (a .n) ops (errorsOf (now (a .errors))) (now (a .choices)) _ (g .so-far)
+          (rw (le-antisymm high low) (k .strike .ensures .0)),
+      g .count,
+      l .loop .inv .2,
+      k .strike .ensures .1,
+      k .strike .ensures .2 ∙ l .loop .inv .6,
+    )
+
+pub carry-even-spec : {M : Type 1} → statement M
+carry-even-spec =
+    tie.close
+    (tie.spec
+    Inv-loop
+    μ-loop
+    loop-holds
+    advance-requires
+    enum-known-advanced
+    enum-known-advanced-2
+    same-length
+    same-length-2
+    same-length-3
+    returns
+    add-k
+    loop-less
+    loop-again
+    strike-requires
+    same-length-4
+    same-length-5
+    same-length-6
+    returns-2)

@@ -1,0 +1,71 @@
+-- `frames::swap_powers` meets its contract.
+-- Assumes nothing.
+use mathlib.Core.Path.{refl}
+use native.Mathlib.Omega.{arith}
+use lib.ListN.{length-set}
+use borrow.Author.Needs.{needs}
+use Rattle.operation.specs.Gate.{gatePowers}
+use Rattle.frames.proofs.swap_powers.Statement.{statement}
+use Rattle.frames.proofs.swap_powers.Tie as tie
+
+slice-read-a : tie.Need-slice-read-a
+slice-read-a c = search needs
+
+slice-read-x : tie.Need-slice-read-x
+slice-read-x c = search needs
+
+add-b : tie.Need-add-b
+add-b c = search needs
+
+slice-read-b : tie.Need-slice-read-b
+slice-read-b c = search needs
+
+add-z : tie.Need-add-z
+add-z c = search needs
+
+slice-read-z : tie.Need-slice-read-z
+slice-read-z c = search needs
+
+slice-write-v : tie.Need-slice-write-v
+slice-write-v c = search needs
+
+add-v : tie.Need-add-v
+add-v c = search needs
+
+slice-write-v-2 : tie.Need-slice-write-v-2
+slice-write-v-2 c = simp length-set (omega arith)
+
+slice-write-v-3 : tie.Need-slice-write-v-3
+slice-write-v-3 c = simp length-set (omega arith)
+
+add-v-2 : tie.Need-add-v-2
+add-v-2 c = search needs
+
+slice-write-v-4 : tie.Need-slice-write-v-4
+slice-write-v-4 c = simp length-set (omega arith)
+
+same-length : tie.Need-same-length
+same-length c = search needs
+
+returns : tie.Need-returns
+unfolding gatePowers
+returns c = λ d. refl
+
+pub swap-powers-spec : {M : Type 1} → statement M
+swap-powers-spec =
+    tie.close
+    (tie.spec
+    slice-read-a
+    slice-read-x
+    add-b
+    slice-read-b
+    add-z
+    slice-read-z
+    slice-write-v
+    add-v
+    slice-write-v-2
+    slice-write-v-3
+    add-v-2
+    slice-write-v-4
+    same-length
+    returns)

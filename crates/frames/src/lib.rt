@@ -1,0 +1,113 @@
+// What a gate and an error do to a frame. Fourier and swap do the same to a row's powers.
+ghost use mathlib.Core.Path.{_≡_};
+ghost use mathlib.Core.Bool.{true};
+ghost use Prim.Native.Nat.{ℕ, _*_, _<_, _≤_};
+ghost use lib.ListN.{length};
+ghost use Rattle.modular.specs.Modular.{Reciprocal};
+ghost use Rattle.modular.specs.Dimension.{listed};
+ghost use Rattle.row.specs.Row.{Powers};
+ghost use Rattle.operation.specs.declared.Operation.the-variants.{Fourier, PhaseGate, Sum, Cz, Swap, Multiplier};
+ghost use Rattle.operation.specs.Operation.{allowed};
+ghost use Rattle.operation.specs.Gate.{gatePowers, gateFrame};
+ghost use Rattle.operation.specs.Error.{errorAllowed, errorFrame};
+use operation::Operation;
+use operation::WeylError;
+
+pub fn fourier_powers(v: &mut [u8], q: usize, d: u8, n: usize)
+    requires { ⌜ (q < n) × Powers d n (now v) ⌝ }
+    ensures { λ _. ⌜ now (v .exit) ≡ gatePowers d n (Fourier q) (now (v .entry)) ⌝ }
+{
+    let a = v[q];
+    let b = v[n + q];
+    v[q] = modular::negative(d, b);
+    v[n + q] = a;
+}
+
+fn phase_gate_powers(v: &mut [u8], q: usize, d: u8, n: usize)
+    requires { ⌜ (q < n) × (d ≤ 31) × Powers d n (now v) ⌝ }
+    ensures { λ _. ⌜ now (v .exit) ≡ gatePowers d n (PhaseGate q) (now (v .entry)) ⌝ }
+{
+    v[n + q] = modular::add(d, v[n + q], v[q]);
+}
+
+fn sum_powers(v: &mut [u8], c: usize, t: usize, d: u8, n: usize)
+    requires { ⌜ (c < n) × (t < n) × (d ≤ 31) × Powers d n (now v) ⌝ }
+    ensures { λ _. ⌜ now (v .exit) ≡ gatePowers d n (Sum c t) (now (v .entry)) ⌝ }
+{
+    let x = modular::add(d, v[t], v[c]);
+    let z = modular::subtract(d, v[n + c], v[n + t]);
+    v[n + c] = z;
+    v[t] = x;
+}
+
+fn cz_powers(v: &mut [u8], c: usize, t: usize, d: u8, n: usize)
+    requires { ⌜ (c < n) × (t < n) × (d ≤ 31) × Powers d n (now v) ⌝ }
+    ensures { λ _. ⌜ now (v .exit) ≡ gatePowers d n (Cz c t) (now (v .entry)) ⌝ }
+{
+    let b = modular::add(d, v[n + c], v[t]);
+    let z = modular::add(d, v[n + t], v[c]);
+    v[n + c] = b;
+    v[n + t] = z;
+}
+
+pub fn swap_powers(v: &mut [u8], c: usize, t: usize, n: usize)
+    requires { ⌜ (c < n) × (t < n) × (2 * n ≤ length (now v)) ⌝ }
+    ensures { λ _. ⌜ ((d : ℕ) → now (v .exit) ≡ gatePowers d n (Swap c t) (now (v .entry))) ⌝ }
+{
+    let a = v[c];
+    let x = v[t];
+    let b = v[n + c];
+    let z = v[n + t];
+    v[c] = x;
+    v[n + c] = z;
+    v[t] = a;
+    v[n + t] = b;
+}
+
+fn multiplier_powers(v: &mut [u8], q: usize, u: u8, d: u8, m: u16, n: usize)
+    requires { ⌜ (q < n) × (u < d) × (listed d ≡ true) × Powers d n (now v) × Reciprocal d m ⌝ }
+    ensures { λ _. ⌜ now (v .exit) ≡ gatePowers d n (Multiplier q u) (now (v .entry)) ⌝ }
+{
+    let a = v[q];
+    let b = v[n + q];
+    let w = inverse::inverse(d, u);
+    v[q] = modular::mul(d, m, a, u);
+    v[n + q] = modular::mul(d, m, b, w);
+}
+
+// The powers of a row or a frame after a gate.
+fn gate_powers(v: &mut [u8], operation: Operation, d: u8, m: u16, n: usize)
+    requires { ⌜ (allowed d n operation ≡ true) × (listed d ≡ true) × Powers d n (now v) × Reciprocal d m ⌝ }
+    ensures { λ _. ⌜ now (v .exit) ≡ gatePowers d n operation (now (v .entry)) ⌝ }
+{
+    match operation {
+        Operation::Fourier { q } => fourier_powers(v, q, d, n),
+        Operation::PhaseGate { q } => phase_gate_powers(v, q, d, n),
+        Operation::Sum { c, t } => sum_powers(v, c, t, d, n),
+        Operation::Cz { c, t } => cz_powers(v, c, t, d, n),
+        Operation::Swap { c, t } => swap_powers(v, c, t, n),
+        Operation::Multiplier { q, u } => multiplier_powers(v, q, u, d, m, n),
+        Operation::Measure { q: _ } => {}
+    }
+}
+
+// The gate on a frame.
+pub fn gate_frame(frame: &mut [u8], operation: Operation, d: u8, n: usize)
+    requires { ⌜ (listed d ≡ true) × (allowed d n operation ≡ true) × Powers d n (now frame) ⌝ }
+    ensures { λ _. ⌜ (now (frame .exit) ≡ gateFrame d n operation (now (frame .entry))) × Powers d n (now (frame .exit)) ⌝ }
+{
+    let m = modular::reciprocal(d);
+    gate_powers(frame, operation, d, m, n);
+}
+
+// The error on a frame.
+pub fn error_frame(frame: &mut [u8], e: WeylError, d: u8, n: usize)
+    requires { ⌜ (d ≤ 31) × (errorAllowed d n e ≡ true) × Powers d n (now frame) ⌝ }
+    ensures { λ _. ⌜ (now (frame .exit) ≡ errorFrame d n e (now (frame .entry))) × Powers d n (now (frame .exit)) ⌝ }
+{
+    let q = e.qudit;
+    let x = modular::add(d, frame[q], e.p);
+    let z = modular::add(d, frame[n + q], e.s);
+    frame[q] = x;
+    frame[n + q] = z;
+}

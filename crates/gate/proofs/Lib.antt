@@ -1,0 +1,3 @@
+-- What the proofs of several functions use.
+pub mod Even
+pub mod Tables
