@@ -2,4 +2,5 @@
 pub mod Multiples
 pub mod Exponents
 pub mod Collapsed
+pub mod Sweep
 pub mod Even

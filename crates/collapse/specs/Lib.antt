@@ -1,3 +1,4 @@
 pub mod Collapse
 pub mod Setting
+pub mod Changing
 pub mod Even

@@ -1,8 +1,8 @@
 // The free measurement of a qudit, on every row of a tableau with even phases.
 ghost use mathlib.Core.Path.{_≡_};
-ghost use mathlib.Core.Bool.{true};
+ghost use mathlib.Core.Bool.{true, cond};
 ghost use Prim.Native.Nat.{_+_, _*_, _<_, _≤_};
-ghost use lib.ListN.{length, replicate};
+ghost use lib.ListN.{length, take, replicate};
 ghost use Rattle.modular.specs.Dimension.{listed};
 ghost use Rattle.row.specs.Row.{Row};
 ghost use Rattle.row.specs.Even.{added};
@@ -12,11 +12,18 @@ ghost use Rattle.even.specs.Even.{plain};
 ghost use Rattle.collapse.specs.Collapse.{collapse};
 ghost use Rattle.collapse.specs.Even.{evenCollapseRow, evenCollapse};
 ghost use Rattle.collapse.specs.Setting.{Multiples, Setting};
+ghost use Rattle.collapse.specs.Changing.{chosen, isChanging};
 
 fn index(x: u8) -> usize
     ensures { λ r. ⌜ r ≡ x ⌝ }
 {
     x as usize
+}
+
+fn one_if(test: bool) -> usize
+    ensures { λ r. ⌜ (r ≡ cond test 1 0) × (r ≤ 1) ⌝ }
+{
+    if test { 1 } else { 0 }
 }
 
 // Row h + 1 of p becomes row h times the pivot.
@@ -56,7 +63,25 @@ fn multiply(v: &mut [u8], p: &[u8], h: usize, d: u8, n: usize)
     row::product(v, &p[s..e], d, n);
 }
 
-// Row i after the measurement. A row whose power is 0 stays.
+// The rows that change, in order: k, n + k and those whose exponent is not 0. Found without a branch, which for small d would often be foreseen wrongly.
+fn changing(list: &mut [u8], t: &[u8], exps: &[u8], k: usize, q: usize, n: usize) -> usize
+    requires { ⌜ (n ≤ 64) × (q < n) × (k < n) × (2 * n < length (now list)) × Tableau 32 n (now t) × (length (now exps) ≡ 32) ⌝ }
+    ensures { λ r. ⌜ (r ≤ 2 * n) × (take r (now (list .exit)) ≡ chosen (isChanging n q k (now (exps .entry)) (now (t .entry))) (2 * n)) ⌝ }
+{
+    let w = 2 * n + 1;
+    let rows = 2 * n;
+    let mut count = 0;
+    let mut i = 0;
+    while i < rows {
+        list[count] = i as u8;
+        let h = exps[index(t[i * w + q])];
+        count += one_if((i == k) | (i == n + k) | (h != 0));
+        i += 1;
+    }
+    count
+}
+
+// Row i after the measurement.
 fn collapse_row(
     v: &mut [u8],
     i: usize,
@@ -83,9 +108,6 @@ fn collapse_row(
     }
     let f = index(v[q]);
     let h = index(exps[f]);
-    if h == 0 {
-        return;
-    }
     multiply(v, p, h, d, n);
 }
 
@@ -112,7 +134,33 @@ fn collapse_at(
     collapse_row(&mut t[s..e], i, pivot, p, exps, inv, k, q, choice, d, n);
 }
 
-// The same on every row.
+// The same on the rows of a list, which are all that change.
+fn collapse_listed(
+    t: &mut [u8],
+    list: &[u8],
+    count: usize,
+    pivot: &[u8],
+    p: &[u8],
+    exps: &[u8],
+    inv: u8,
+    k: usize,
+    q: usize,
+    choice: u8,
+    d: u8,
+    n: usize,
+)
+    requires { ⌜ Tableau d n (now t) × Setting d n q k choice inv (now pivot) (now p) (now exps) × (count ≤ length (now list)) × (take count (now list) ≡ chosen (isChanging n q k (now exps) (now t)) (2 * n)) ⌝ }
+    ensures { λ _. ⌜ (now (t .exit) ≡ onRows n (evenCollapseRow d n q k choice (now (pivot .entry))) (now (t .entry))) × Tableau d n (now (t .exit)) ⌝ }
+{
+    let mut j = 0;
+    while j < count {
+        let i = index(list[j]);
+        collapse_at(t, i, pivot, p, exps, inv, k, q, choice, d, n);
+        j += 1;
+    }
+}
+
+// The same on every row. The list has room for one number more than there are rows, since it is written ahead.
 fn collapse_all(
     t: &mut [u8],
     pivot: &[u8],
@@ -128,12 +176,9 @@ fn collapse_all(
     requires { ⌜ Tableau d n (now t) × Setting d n q k choice inv (now pivot) (now p) (now exps) ⌝ }
     ensures { λ _. ⌜ (now (t .exit) ≡ onRows n (evenCollapseRow d n q k choice (now (pivot .entry))) (now (t .entry))) × Tableau d n (now (t .exit)) ⌝ }
 {
-    let rows = 2 * n;
-    let mut i = 0;
-    while i < rows {
-        collapse_at(t, i, pivot, p, exps, inv, k, q, choice, d, n);
-        i += 1;
-    }
+    let mut list = [0u8; 129];
+    let count = changing(&mut list, t, exps, k, q, n);
+    collapse_listed(t, &list, count, pivot, p, exps, inv, k, q, choice, d, n);
 }
 
 // The same, by a pivot that was copied out; p is room for its powers, exps for the table of exponents.
@@ -170,7 +215,7 @@ fn collapse_in(
     d: u8,
     n: usize,
 )
-    requires { ⌜ (listed d ≡ true) × (n ≤ 64) × (q < n) × (k < n) × (choice < d) × Tableau d n (now t) × (length (now pivot) ≡ 2 * n + 1) × (now p ≡ replicate 3999 0) × (length (now exps) ≡ 32) ⌝ }
+    requires { ⌜ (listed d ≡ true) × (n ≤ 64) × (q < n) × (k < n) × (choice < d) × Tableau d n (now t) × (length (now pivot) ≡ 2 * n + 1) × (now p ≡ replicate (length (now p)) 0) × (d * (2 * n + 1) ≤ length (now p)) × (length (now exps) ≡ 32) ⌝ }
     ensures { λ _. ⌜ (now (t .exit) ≡ evenCollapse d n q k choice (now (t .entry))) × Tableau d n (now (t .exit)) ⌝ }
 {
     tableau::copy_row(pivot, t, n + k, n);
@@ -188,7 +233,7 @@ fn collapse_with(
     d: u8,
     n: usize,
 )
-    requires { ⌜ (listed d ≡ true) × (n ≤ 64) × (q < n) × (k < n) × (choice < d) × Tableau d n (now t) × (129 ≤ length (now pivot)) × (now p ≡ replicate 3999 0) × (length (now exps) ≡ 32) ⌝ }
+    requires { ⌜ (listed d ≡ true) × (n ≤ 64) × (q < n) × (k < n) × (choice < d) × Tableau d n (now t) × (129 ≤ length (now pivot)) × (now p ≡ replicate (length (now p)) 0) × (d * (2 * n + 1) ≤ length (now p)) × (length (now exps) ≡ 32) ⌝ }
     ensures { λ _. ⌜ (now (t .exit) ≡ evenCollapse d n q k choice (now (t .entry))) × Tableau d n (now (t .exit)) ⌝ }
 {
     let w = 2 * n + 1;

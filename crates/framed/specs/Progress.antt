@@ -3,8 +3,7 @@ use mathlib.Core.Path.{_≡_}
 use mathlib.Core.Bool.{Bool, true, false}
 use mathlib.Core.List.{List}
 use Prim.Native.Nat.{ℕ}
-use lib.Dec.{eqb}
-use lib.ListN.{length, getD}
+use lib.ListN.{length}
 use Rattle.operation.specs.declared.Operation.{Operation}
 use Rattle.operation.specs.declared.WeylError.{WeylError}
 use Rattle.circuit.specs.Circuit.{measured}
@@ -35,6 +34,3 @@ module _ (d n : ℕ) (ops : List Operation) (errors : List WeylError) (choices :
 abbrev pub Counted : List Operation → Advanced → Type 0
 Counted ops (Next at) = at .measurements ≡ measured ops (length ops)
 Counted ops (Refused number place) = number ≡ 10
-
-abbrev pub isZero : List ℕ → ℕ → Bool
-isZero shifts i = eqb (getD shifts i 0) 0

@@ -1,14 +1,11 @@
 // The frame run.
 ghost use mathlib.Core.Path.{_≡_};
-ghost use mathlib.Core.Bool.{true, cond};
-ghost use mathlib.Core.List.{_++_};
+ghost use mathlib.Core.Bool.{true};
 ghost use Prim.Native.Nat.{ℕ, _+_, _*_, _/_, _<_, _≤_};
-ghost use lib.ListN.{length, getD, drop};
-ghost use Rattle.modular.specs.Modular.{WideReciprocal};
+ghost use lib.ListN.{length, getD};
 ghost use Rattle.modular.specs.Dimension.{listed};
-ghost use Rattle.row.specs.Row.{Powers, Row, tab, pairing};
-ghost use Rattle.search.specs.Search.{all};
-ghost use Rattle.tableau.specs.Tableau.{Tableau, put, row};
+ghost use Rattle.row.specs.Row.{Powers};
+ghost use Rattle.tableau.specs.Tableau.{Tableau};
 ghost use Rattle.validity.specs.Validity.{Valid};
 ghost use Rattle.even.specs.Even.{plain};
 ghost use Rattle.operation.specs.Operation.{allowed};
@@ -16,9 +13,9 @@ ghost use Rattle.operation.specs.Error.{errorAllowed};
 ghost use Rattle.circuit.specs.Circuit.{errAt, tally, measured};
 ghost use Rattle.circuit.specs.Reached.{Reached, Stands};
 ghost use Rattle.book.specs.Decoded.{operationsOf, errorsOf, Bodies};
-ghost use Rattle.run.specs.Frame.{noFrame, strikeFrame, shiftAt, shiftRow, shiftRows, verdictOf, framedOperation, framedStep};
+ghost use Rattle.run.specs.Frame.{noFrame, strikeFrame, framedOperation, framedStep};
 ghost use Rattle.framed.specs.FrameBook.{frameRoomy, frameBodies, frameBook};
-ghost use Rattle.framed.specs.Progress.{framedAfter, framedOf, framedAll, Counted, isZero};
+ghost use Rattle.framed.specs.Progress.{framedAfter, framedOf, framedAll, Counted};
 use body::Reading;
 use body::Taken;
 use circuit::Advanced;
@@ -175,69 +172,6 @@ fn carry(
     carried
 }
 
-// The shift of a row is its pairing with the frame; it is added to the row's phase.
-fn shift_row(v: &mut [u8], frame: &[u8], d: u8, m: u64, n: usize) -> u8
-    requires { ⌜ (n ≤ 64) × Row d n (now v) × Powers d n (now frame) × WideReciprocal d m ⌝ }
-    ensures { λ r. ⌜ (r ≡ pairing d n (now (frame .entry)) (now (v .entry))) × (now (v .exit) ≡ shiftRow d n (now (frame .entry)) (now (v .entry))) ⌝ }
-{
-    let last = 2 * n;
-    let shift = row::pairing(frame, v, d, m, n);
-    v[last] = modular::add(d, v[last], shift);
-    shift
-}
-
-// The same for row i of the tableau.
-fn shift_at(t: &mut [u8], i: usize, frame: &[u8], d: u8, m: u64, n: usize) -> u8
-    requires { ⌜ (n ≤ 64) × (i * (2 * n + 1) + (2 * n + 1) ≤ length (now t)) × Row d n (row n (now t) i) × Powers d n (now frame) × WideReciprocal d m ⌝ }
-    ensures { λ r. ⌜ (r ≡ shiftAt d n (now (frame .entry)) (now (t .entry)) i) × (now (t .exit) ≡ put (i * (2 * n + 1)) (2 * n + 1) (shiftRow d n (now (frame .entry)) (row n (now (t .entry)) i)) (now (t .entry))) ⌝ }
-{
-    let w = 2 * n + 1;
-    let s = i * w;
-    let e = s + w;
-    shift_row(&mut t[s..e], frame, d, m, n)
-}
-
-// Every row's shift, written and added.
-fn shift_rows(t: &mut [u8], shifts: &mut [u8], frame: &[u8], d: u8, n: usize)
-    requires { ⌜ (3 ≤ d) × (d ≤ 31) × (n ≤ 64) × (2 * n ≤ length (now shifts)) × Tableau d n (now t) × Powers d n (now frame) ⌝ }
-    ensures { λ _. ⌜ (now (t .exit) ≡ shiftRows d n (now (frame .entry)) (now (t .entry))) × (now (shifts .exit) ≡ tab (shiftAt d n (now (frame .entry)) (now (t .entry))) (2 * n) ++ drop (2 * n) (now (shifts .entry))) ⌝ }
-{
-    let m = modular::wide_reciprocal(d);
-    let rows = 2 * n;
-    let mut i = 0;
-    while i < rows {
-        shifts[i] = shift_at(t, i, frame, d, m, n);
-        i += 1;
-    }
-}
-
-// 0 clean where all 2n shifts are 0, else 1 shifted.
-fn verdict(shifts: &[u8], n: usize) -> usize
-    requires { ⌜ 2 * n ≤ length (now shifts) ⌝ }
-    ensures { λ r. ⌜ r ≡ cond (all (isZero (now (shifts .entry))) (2 * n)) 0 1 ⌝ }
-{
-    let rows = 2 * n;
-    let mut i = 0;
-    while i < rows {
-        if shifts[i] != 0 {
-            return 1;
-        }
-        i += 1;
-    }
-    0
-}
-
-// The shifts are added and written, and the frame is written. The verdict.
-fn finish(t: &mut [u8], shifts: &mut [u8], out: &mut [u8], frame: &[u8], d: u8, n: usize) -> usize
-    requires { ⌜ (3 ≤ d) × (d ≤ 31) × (n ≤ 64) × (2 * n ≤ length (now shifts)) × (2 * n ≤ length (now out)) × Tableau d n (now t) × Powers d n (now frame) × (length (now frame) ≡ 2 * n) ⌝ }
-    ensures { λ r. ⌜ (now (t .exit) ≡ shiftRows d n (now (frame .entry)) (now (t .entry))) × (now (shifts .exit) ≡ tab (shiftAt d n (now (frame .entry)) (now (t .entry))) (2 * n) ++ drop (2 * n) (now (shifts .entry))) × (now (out .exit) ≡ now (frame .entry) ++ drop (2 * n) (now (out .entry))) × (r ≡ verdictOf d n (now (frame .entry)) (now (t .entry))) ⌝ }
-{
-    shift_rows(t, shifts, frame, d, n);
-    let powers = 2 * n;
-    tableau::copy(&mut out[..powers], frame);
-    verdict(shifts, n)
-}
-
 // The frame run, with a frame that begins as none.
 fn run_in(
     t: &mut [u8],
@@ -265,7 +199,7 @@ fn run_in(
             };
         }
     };
-    let verdict = finish(t, shifts, out, frame, d, n);
+    let verdict = shift::finish(t, shifts, out, frame, d, n);
     FrameAnswer {
         number: 0,
         place: at.measurements,

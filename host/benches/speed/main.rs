@@ -16,7 +16,7 @@ use cagvost::book::{Book, Operation};
 use calls::{Columns, DIRECT, FRAME, Job, TEST};
 use std::thread;
 use std::time::{Duration, Instant};
-use timing::{Times, Unit, head, leaves, line, take};
+use timing::{Unit, head, leaves, line, take, take_beyond};
 
 const DIMENSIONS: [u8; 3] = [3, 5, 31];
 const QUDITS: u8 = 64;
@@ -26,7 +26,7 @@ const RUNS: [(&str, Columns); 2] = [("direct", DIRECT), ("frame", FRAME)];
 /// How long the columns of a line take turns.
 const FULL_BOOK: Duration = Duration::from_millis(1300);
 const GROWTH: Duration = Duration::from_millis(600);
-const SINGLE: Duration = Duration::from_millis(250);
+const SINGLE: Duration = Duration::from_millis(400);
 
 fn main() {
     // `cargo test --all-targets` runs this file too, without that argument and not optimised.
@@ -121,8 +121,7 @@ fn single_operations() {
     );
     for d in DIMENSIONS {
         let dense = dense_tableau(d, QUDITS);
-        let empty = Job::new(&Book::new(d, QUDITS), dense.clone());
-        let idle = take(&empty, &DIRECT, SINGLE);
+        let idle = Job::new(&Book::new(d, QUDITS), dense.clone());
         for (name, gate) in gates() {
             let book = books::of_one_gate(d, QUDITS, gate);
             let job = Job::new(&book, dense.clone());
@@ -131,22 +130,21 @@ fn single_operations() {
         let job = Job::new(&books::of_one_error(d, QUDITS), dense.clone());
         single(&format!("d {d:<2} error, of 2,048"), 2048, &job, &idle);
         measurements(d, dense, &idle);
-        let whole = Unit::NanosPer(1);
-        line(&format!("d {d:<2} run without entries"), whole, &idle);
-        let times = take(&empty, &TEST, SINGLE);
-        line(&format!("d {d:<2} test, all pairings"), whole, &times);
+        for (name, columns) in [
+            ("run without entries", DIRECT),
+            ("test, all pairings", TEST),
+        ] {
+            let times = take(&idle, &columns, SINGLE);
+            line(&format!("d {d:<2} {name}"), Unit::NanosPer(1), &times);
+        }
     }
 }
 
-fn measurements(d: u8, dense: Vec<u8>, idle: &Times) {
+fn measurements(d: u8, dense: Vec<u8>, idle: &Job) {
     let free = Job::new(&books::of_measurements(d, QUDITS, 64), dense);
     assert_eq!(kinds(&free), (64, 0));
-    single(
-        &format!("d {d:<2} free measurement, of 64"),
-        64,
-        &free,
-        idle,
-    );
+    let label = format!("d {d:<2} free measurement, of 64");
+    single(&label, 64, &free, idle);
     let book = books::of_measurements(d, QUDITS, 4096);
     let certain = Job::new(&book, certain_tableau(d, QUDITS));
     assert_eq!(kinds(&certain), (0, 4096));
@@ -154,8 +152,8 @@ fn measurements(d: u8, dense: Vec<u8>, idle: &Times) {
     single(&label, 4096, &certain, idle);
 }
 
-fn single(label: &str, count: usize, job: &Job, idle: &Times) {
-    let times = take(job, &DIRECT, SINGLE).less(idle);
+fn single(label: &str, count: usize, job: &Job, idle: &Job) {
+    let times = take_beyond(job, idle, &DIRECT, SINGLE);
     line(label, Unit::NanosPer(count), &times);
 }
 

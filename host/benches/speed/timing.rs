@@ -17,25 +17,37 @@ pub struct Times {
     pub median: [f64; 3],
 }
 
-impl Times {
-    /// Without the times of another call.
-    pub fn less(self, other: &Times) -> Times {
-        let minus = |x: [f64; 3], y: [f64; 3]| std::array::from_fn(|i| x[i] - y[i]);
-        Times {
-            least: minus(self.least, other.least),
-            median: minus(self.median, other.median),
-        }
-    }
+/// Times the call in each column for about as long as the budget says.
+pub fn take(job: &Job, columns: &Columns, budget: Duration) -> Times {
+    let [times] = rounds([job], columns, budget);
+    summary(times)
 }
 
-/// Times the call in each column for about as long as the budget says.
+/// Times what a job takes beyond another one, which is called next to it in every round: a clock
+/// rate that drifts then falls on both.
+pub fn take_beyond(job: &Job, other: &Job, columns: &Columns, budget: Duration) -> Times {
+    let [more, less] = rounds([job, other], columns, budget);
+    let (all, rest) = (summary(more.clone()), summary(less.clone()));
+    let mut times = summary([0, 1, 2].map(|i| {
+        let pairs = more[i].iter().zip(&less[i]);
+        pairs.map(|(x, y)| x.saturating_sub(*y)).collect()
+    }));
+    times.least = [0, 1, 2].map(|i| all.least[i] - rest.least[i]);
+    times
+}
+
+/// The times of each job in each column.
 ///
 /// The columns take turns, and the one that begins changes from round to round. Buffers are
 /// refilled before a call and compared after it, both off the clock.
-pub fn take(job: &Job, columns: &Columns, budget: Duration) -> Times {
-    let expected = compare(job, columns);
-    let mut buffers = job.before.clone();
-    let mut times: [Vec<Duration>; 3] = Default::default();
+fn rounds<const N: usize>(
+    jobs: [&Job; N],
+    columns: &Columns,
+    budget: Duration,
+) -> [[Vec<Duration>; 3]; N] {
+    let expected = jobs.map(|job| compare(job, columns));
+    let mut buffers = jobs.map(|job| job.before.clone());
+    let mut times = [(); N].map(|()| <[Vec<Duration>; 3]>::default());
     let begin = Instant::now();
     for round in 0..MOST_ROUNDS {
         if round >= FEWEST_ROUNDS && begin.elapsed() > budget {
@@ -45,14 +57,17 @@ pub fn take(job: &Job, columns: &Columns, budget: Duration) -> Times {
             if i == 2 && round % PLAIN_ONE_IN != 0 {
                 continue;
             }
-            buffers.refill(&job.before);
-            let start = Instant::now();
-            let told = columns[i](black_box(job), black_box(&mut buffers));
-            times[i].push(start.elapsed());
-            assert!((told, &buffers) == (expected.0, &expected.1), "column {i}");
+            for (j, job) in jobs.iter().enumerate() {
+                buffers[j].refill(&job.before);
+                let start = Instant::now();
+                let told = columns[i](black_box(job), black_box(&mut buffers[j]));
+                times[j][i].push(start.elapsed());
+                let left = (told, &buffers[j]);
+                assert!(left == (expected[j].0, &expected[j].1), "column {i}");
+            }
         }
     }
-    summary(times)
+    times
 }
 
 /// What the columns agree in: the numbers and every byte. Each is called once.

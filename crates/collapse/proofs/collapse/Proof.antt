@@ -1,25 +1,43 @@
 -- `collapse::collapse` meets its contract.
 -- Assumes nothing.
-use borrow.Author.Needs.{needs}
+use mathlib.Core.Path.{refl}
+use Prim.Native.Nat.{_+_, _*_, _≤_}
+use native.Mathlib.Nat.{le-refl, mul-le-mul}
+use native.Mathlib.Omega.{arith}
 use Rattle.modular.proofs.Listed.{dimension}
+use Rattle.validity.proofs.Exactly.{valid-tableau}
 use Rattle.collapse.proofs.Even.{even-collapse}
 use Rattle.collapse.proofs.collapse.Statement.{statement}
 use Rattle.collapse.proofs.collapse.Tie as tie
 
 slice-aggregate-collapse-with : tie.Need-slice-aggregate-collapse-with
-slice-aggregate-collapse-with c = search needs
+slice-aggregate-collapse-with c = refl
 
 slice-aggregate-collapse-with-2 : tie.Need-slice-aggregate-collapse-with-2
-slice-aggregate-collapse-with-2 c = search needs
+slice-aggregate-collapse-with-2 c = refl
 
 slice-aggregate-collapse-with-3 : tie.Need-slice-aggregate-collapse-with-3
-slice-aggregate-collapse-with-3 c = search needs
+slice-aggregate-collapse-with-3 c = refl
 
 collapse-with-requires : tie.Need-collapse-with-requires
-collapse-with-requires c κs = search needs
+collapse-with-requires c κs =
+    let s = c .before .before .before .before .before in
+    let p = s .pre in
+    let wide : 2 * s .args .n + 1 ≤ 129 = omega arith in (
+      p .0,
+      p .1,
+      p .2,
+      p .3,
+      p .4,
+      valid-tableau _ _ _ (p .5),
+      le-refl 129,
+      refl,
+      mul-le-mul (dimension _ (p .0) .high) wide,
+      refl,
+    )
 
 same-length : tie.Need-same-length
-same-length c = search needs
+same-length c = omega arith
 
 returns : tie.Need-returns
 returns c =

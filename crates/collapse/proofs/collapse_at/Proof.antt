@@ -1,38 +1,38 @@
 -- `collapse::collapse_at` meets its contract.
 -- Assumes nothing.
 use native.Mathlib.Nat.{add-sub-cancel-left}
-use borrow.Author.Needs.{needs}
+use native.Mathlib.Omega.{arith}
 use Rattle.tableau.specs.Tableau.{part, put}
 use Rattle.collapse.proofs.collapse_at.Statement.{statement}
 use Rattle.collapse.proofs.collapse_at.Tie as tie
 
 mul-w : tie.Need-mul-w
-mul-w c = search needs
+mul-w c = omega arith
 
 add-w : tie.Need-add-w
-add-w c = search needs
+add-w c = omega arith
 
 mul-s : tie.Need-mul-s
-mul-s c = search needs
+mul-s c = omega arith
 
 add-e : tie.Need-add-e
-add-e c = search needs
+add-e c = omega arith
 
 sub-collapse-row : tie.Need-sub-collapse-row
-sub-collapse-row c = search needs
+sub-collapse-row c = omega arith
 
 part-collapse-row-start : tie.Need-part-collapse-row-start
-part-collapse-row-start c = search needs
+part-collapse-row-start c = omega arith
 
 part-collapse-row-end : tie.Need-part-collapse-row-end
-part-collapse-row-end c = search needs
+part-collapse-row-end c = omega arith
 
 collapse-row-requires : tie.Need-collapse-row-requires
 unfolding part
 collapse-row-requires c κs = let p = c .before .before .before .before .before .pre in (simp add-sub-cancel-left (p .1), p .2)
 
 same-length : tie.Need-same-length
-same-length c = search needs
+same-length c = omega arith
 
 returns : tie.Need-returns
 unfolding part put

@@ -12,7 +12,7 @@ use Rattle.collapse.proofs.collapse_by.Statement.{statement}
 use Rattle.collapse.proofs.collapse_by.Tie as tie
 
 shared-slice-read-inverse : tie.Need-shared-slice-read-inverse
-shared-slice-read-inverse c = search needs
+shared-slice-read-inverse c = omega arith
 
 inverse-requires : tie.Need-inverse-requires
 inverse-requires c κs = search needs
@@ -52,16 +52,16 @@ collapse-all-requires c κs =
     )
 
 same-length : tie.Need-same-length
-same-length c = search needs
+same-length c = omega arith
 
 same-length-2 : tie.Need-same-length-2
-same-length-2 c = search needs
+same-length-2 c = omega arith
 
 same-length-3 : tie.Need-same-length-3
-same-length-3 c = search needs
+same-length-3 c = omega arith
 
 returns : tie.Need-returns
-returns c = search needs
+returns c = c .before .before .collapse-all .ensures
 
 pub collapse-by-spec : {M : Type 1} → statement M
 collapse-by-spec =

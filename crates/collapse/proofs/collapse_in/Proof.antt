@@ -1,9 +1,7 @@
 -- `collapse::collapse_in` meets its contract.
 -- Assumes nothing.
-use Prim.Native.Nat.{_+_, _*_, _≤_}
-use native.Mathlib.Nat.{mul-le-mul}
+use Prim.Native.Nat.{_+_}
 use native.Mathlib.Omega.{arith}
-use borrow.Author.Needs.{needs}
 use Rattle.modular.proofs.Listed.{dimension}
 use Rattle.tableau.proofs.Parts.{row-room, tableau-row}
 use Rattle.collapse.specs.Even.{evenCollapse}
@@ -12,7 +10,7 @@ use Rattle.collapse.proofs.collapse_in.Statement.{statement}
 use Rattle.collapse.proofs.collapse_in.Tie as tie
 
 add-copy-row : tie.Need-add-copy-row
-add-copy-row c = search needs
+add-copy-row c = omega arith
 
 copy-row-requires : tie.Need-copy-row-requires
 copy-row-requires c κs =
@@ -24,7 +22,6 @@ collapse-by-requires c κs =
     let s = c .before .before .before .before .before .before .before .before .before .before .before .before .before in
     let p = s .pre in
     let dim = dimension _ (p .0) in
-    let wide : 2 * s .args .n + 1 ≤ 129 = omega arith in
     let copied = c .before .before .before .before .before .before .copy-row .ensures in
     let r = tableau-row _ _ _ (p .5) (s .args .n + s .args .k) (omega arith) in (
       p .0,
@@ -34,21 +31,21 @@ collapse-by-requires c κs =
       p .4,
       p .5,
       rw copied r,
-      rw copied (multiples-none _ _ _ (omega (arith, dim .low)) r _ _ (p .7) (mul-le-mul (dim .high) wide)),
-      p .8,
+      rw copied (multiples-none _ _ _ (omega (arith, dim .low)) r _ _ (p .7) (p .8)),
+      p .9,
     )
 
 same-length : tie.Need-same-length
-same-length c = search needs
+same-length c = omega arith
 
 same-length-2 : tie.Need-same-length-2
-same-length-2 c = search needs
+same-length-2 c = omega arith
 
 same-length-3 : tie.Need-same-length-3
-same-length-3 c = search needs
+same-length-3 c = omega arith
 
 same-length-4 : tie.Need-same-length-4
-same-length-4 c = search needs
+same-length-4 c = omega arith
 
 returns : tie.Need-returns
 unfolding evenCollapse

@@ -1,13 +1,12 @@
 -- `collapse::collapse_row` meets its contract.
 -- Assumes nothing.
-use mathlib.Core.Path.{sym}
 use native.Mathlib.Omega.{arith}
 use borrow.Author.Needs.{needs}
 use borrow.Author.Tests.{eq-eqb, ne-eqb}
 use Rattle.row.specs.Generators.{zWith}
 use Rattle.collapse.specs.Even.{evenCollapseRow}
 use Rattle.collapse.proofs.Multiples.{multiple-room, multiple-row}
-use Rattle.collapse.proofs.Exponents.{table-room, table-at, table-less, stays}
+use Rattle.collapse.proofs.Exponents.{table-room, table-at, table-less}
 use Rattle.collapse.proofs.collapse_row.Statement.{statement}
 use Rattle.collapse.proofs.collapse_row.Tie as tie
 
@@ -21,7 +20,7 @@ copy-row-requires c κs =
     (s .pre .0 .len, rw (c .index .ensures) (multiple-room _ _ _ (omega (arith, g .low)) (g .copied) _ (g .multiples) _ (g .small)))
 
 same-length : tie.Need-same-length
-same-length c = search needs
+same-length c = omega arith
 
 returns : tie.Need-returns
 unfolding evenCollapseRow
@@ -33,10 +32,10 @@ returns c =
     (c .before .before .copy-row .ensures)
 
 add-if2 : tie.Need-add-if2
-add-if2 c = search needs
+add-if2 c = omega arith
 
 add-unit-row : tie.Need-add-unit-row
-add-unit-row c = search needs
+add-unit-row c = omega arith
 
 negative-requires : tie.Need-negative-requires
 negative-requires c κs = search needs
@@ -45,14 +44,14 @@ unit-row-requires : tie.Need-unit-row-requires
 unit-row-requires c κs = search needs
 
 same-length-2 : tie.Need-same-length-2
-same-length-2 c = search needs
+same-length-2 c = omega arith
 
 returns-2 : tie.Need-returns-2
 unfolding evenCollapseRow zWith
 returns-2 c = rw (ne-eqb _ _ (c .before .before .before .before .before .before .if1 .left), eq-eqb _ _ (c .before .before .before .before .before .if2 .taken)) (cc)
 
 slice-read-index : tie.Need-slice-read-index
-slice-read-index c = search needs
+slice-read-index c = omega arith
 
 index-requires-2 : tie.Need-index-requires-2
 index-requires-2 c κs = search needs
@@ -64,20 +63,11 @@ shared-slice-read-index c =
 index-requires-3 : tie.Need-index-requires-3
 index-requires-3 c κs = search needs
 
-returns-3 : tie.Need-returns-3
-unfolding evenCollapseRow
-returns-3 c =
-    let s = c .before .before .before .before .before .before .before .before .before .before .before in
-    let g = s .pre .1 in
-    rw
-    (ne-eqb _ _ (c .before .before .before .before .before .before .if1 .left), ne-eqb _ _ (c .before .before .before .before .before .if2 .left), ← table-at g (s .pre .0) (c .before .before .before .index2 .ensures) (c .before .index3 .ensures))
-    (sym (stays _ _ _ _ _ (s .pre .0) (g .copied) (c .if3 .taken)))
-
 multiply-requires : tie.Need-multiply-requires
 multiply-requires c κs =
-    let s = c .before .before .before .before .before .before .before .before .before .before .before .before in
+    let s = c .before .before .before .before .before .before .before .before .before .before .before in
     let g = s .pre .1 in
-    let l = table-less g (s .pre .0) (c .before .before .before .before .index2 .ensures) (c .before .before .index3 .ensures) in (
+    let l = table-less g (s .pre .0) (c .before .before .before .index2 .ensures) (c .before .index3 .ensures) in (
       g .high,
       multiple-room _ _ _ (omega (arith, g .low)) (g .copied) _ (g .multiples) _ l,
       s .pre .0,
@@ -85,18 +75,18 @@ multiply-requires c κs =
     )
 
 same-length-3 : tie.Need-same-length-3
-same-length-3 c = search needs
+same-length-3 c = omega arith
 
-returns-4 : tie.Need-returns-4
+returns-3 : tie.Need-returns-3
 unfolding evenCollapseRow
-returns-4 c =
-    let s = c .before .before .before .before .before .before .before .before .before .before .before .before .before .before .before in
+returns-3 c =
+    let s = c .before .before .before .before .before .before .before .before .before .before .before .before .before .before in
     let g = s .pre .1 in
-    let f = c .before .before .before .before .before .before .before .index2 in
-    let h = c .before .before .before .before .before .index3 in
+    let f = c .before .before .before .before .before .before .index2 in
+    let h = c .before .before .before .before .index3 in
     rw (
-      ne-eqb _ _ (c .before .before .before .before .before .before .before .before .before .before .if1 .left),
-      ne-eqb _ _ (c .before .before .before .before .before .before .before .before .before .if2 .left),
+      ne-eqb _ _ (c .before .before .before .before .before .before .before .before .before .if1 .left),
+      ne-eqb _ _ (c .before .before .before .before .before .before .before .before .if2 .left),
       ← table-at g (s .pre .0) (f .ensures) (h .ensures),
       ← g .multiples .each (h .result) (table-less g (s .pre .0) (f .ensures) (h .ensures)),
     )
@@ -120,7 +110,6 @@ collapse-row-spec =
     index-requires-2
     shared-slice-read-index
     index-requires-3
-    returns-3
     multiply-requires
     same-length-3
-    returns-4)
+    returns-3)

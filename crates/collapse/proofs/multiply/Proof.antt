@@ -1,38 +1,38 @@
 -- `collapse::multiply` meets its contract.
 -- Assumes nothing.
 use native.Mathlib.Nat.{add-sub-cancel-left}
-use borrow.Author.Needs.{needs}
+use native.Mathlib.Omega.{arith}
 use Rattle.tableau.specs.Tableau.{part}
 use Rattle.collapse.proofs.multiply.Statement.{statement}
 use Rattle.collapse.proofs.multiply.Tie as tie
 
 mul-w : tie.Need-mul-w
-mul-w c = search needs
+mul-w c = omega arith
 
 add-w : tie.Need-add-w
-add-w c = search needs
+add-w c = omega arith
 
 mul-s : tie.Need-mul-s
-mul-s c = search needs
+mul-s c = omega arith
 
 add-e : tie.Need-add-e
-add-e c = search needs
+add-e c = omega arith
 
 sub-product : tie.Need-sub-product
-sub-product c = search needs
+sub-product c = omega arith
 
 part-product-start : tie.Need-part-product-start
-part-product-start c = search needs
+part-product-start c = omega arith
 
 part-product-end : tie.Need-part-product-end
-part-product-end c = search needs
+part-product-end c = omega arith
 
 product-requires : tie.Need-product-requires
 unfolding part
 product-requires c κs = let p = c .before .before .before .before .pre in (p .0, p .2, simp add-sub-cancel-left (p .3))
 
 same-length : tie.Need-same-length
-same-length c = search needs
+same-length c = omega arith
 
 returns : tie.Need-returns
 unfolding part

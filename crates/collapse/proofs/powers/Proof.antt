@@ -23,7 +23,7 @@ loop-holds : tie.Need-loop-holds Inv-loop μ-loop
 loop-holds c = let p = c .before .before .before .pre in (omega arith, refl, p .3)
 
 add-loop : tie.Need-add-loop Inv-loop μ-loop
-add-loop c = search needs
+add-loop c = omega arith
 
 next-power-requires : tie.Need-next-power-requires Inv-loop μ-loop
 next-power-requires c κs =
@@ -32,10 +32,10 @@ next-power-requires c κs =
     (p .1, more-room _ _ _ (p .0) (p .2) _ _ (l .inv .2) (omega arith), more-row _ _ _ (p .0) (p .2) _ _ (l .inv .2) (omega arith), p .2)
 
 add-h : tie.Need-add-h Inv-loop μ-loop
-add-h c = search needs
+add-h c = omega arith
 
 loop-less : tie.Need-loop-less Inv-loop μ-loop
-loop-less c = search needs
+loop-less c = omega arith
 
 loop-again : tie.Need-loop-again Inv-loop μ-loop
 loop-again c =
@@ -44,7 +44,7 @@ loop-again c =
     (omega arith, omega arith, multiples-more _ _ _ (p .0) (p .2) _ _ (l .inv .2) (omega arith) _ (c .before .before .next-power .ensures))
 
 same-length : tie.Need-same-length Inv-loop μ-loop
-same-length c = search needs
+same-length c = omega arith
 
 returns : tie.Need-returns Inv-loop μ-loop
 returns c =

@@ -1,10 +1,10 @@
--- `framed::shift_at` meets its contract.
+-- `shift::shift_at` meets its contract.
 -- Assumes nothing.
 use native.Mathlib.Nat.{add-sub-cancel-left}
 use borrow.Author.Needs.{needs}
 use Rattle.tableau.specs.Tableau.{part, put}
-use Rattle.framed.proofs.shift_at.Statement.{statement}
-use Rattle.framed.proofs.shift_at.Tie as tie
+use Rattle.shift.proofs.shift_at.Statement.{statement}
+use Rattle.shift.proofs.shift_at.Tie as tie
 
 mul-w : tie.Need-mul-w
 mul-w c = search needs

@@ -1,4 +1,4 @@
--- `framed::shift_rows` meets its contract.
+-- `shift::shift_rows` meets its contract.
 -- Assumes nothing.
 use mathlib.Core.Path.{_≡_, refl, _∙_}
 use Prim.Native.Nat.{_+_, _-_, _*_, _≤_}
@@ -13,8 +13,8 @@ use Rattle.tableau.specs.Tableau.{eachRow, every}
 use Rattle.tableau.proofs.Parts.{each-later, row-room, each-more, each-all, turn-room, turn-row}
 use Rattle.run.specs.Frame.{shiftAt, shiftRow}
 use Rattle.run.proofs.Frames.{shift-keeps}
-use Rattle.framed.proofs.shift_rows.Statement.{statement}
-use Rattle.framed.proofs.shift_rows.Tie as tie
+use Rattle.shift.proofs.shift_rows.Statement.{statement}
+use Rattle.shift.proofs.shift_rows.Tie as tie
 
 abbrev Inv-loop : tie.InvT-loop
 Inv-loop t₀ shifts₀ frame d n m rows i₀ t shifts i =

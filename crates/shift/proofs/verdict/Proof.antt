@@ -1,4 +1,4 @@
--- `framed::verdict` meets its contract.
+-- `shift::verdict` meets its contract.
 -- Assumes nothing.
 use mathlib.Core.Path.{_≡_, refl}
 use mathlib.Core.Bool.{true}
@@ -9,9 +9,9 @@ use borrow.Author.Needs.{needs}
 use borrow.Author.Tests.{eq-eqb, ne-eqb}
 use Rattle.search.specs.Search.{all}
 use Rattle.search.proofs.Search.{all-more, all-fails}
-use Rattle.framed.specs.Progress.{isZero}
-use Rattle.framed.proofs.verdict.Statement.{statement}
-use Rattle.framed.proofs.verdict.Tie as tie
+use Rattle.shift.specs.Verdict.{isZero}
+use Rattle.shift.proofs.verdict.Statement.{statement}
+use Rattle.shift.proofs.verdict.Tie as tie
 
 abbrev Inv-loop : tie.InvT-loop
 Inv-loop shifts n rows i₀ i = (i ≤ rows) × (all (isZero shifts) i ≡ true)

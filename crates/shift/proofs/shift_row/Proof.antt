@@ -1,4 +1,4 @@
--- `framed::shift_row` meets its contract.
+-- `shift::shift_row` meets its contract.
 -- Assumes nothing.
 use Prim.Native.Nat.{_<_}
 use native.Mathlib.Nat.{mod-lt}
@@ -7,8 +7,8 @@ use borrow.Author.Needs.{needs}
 use Rattle.row.specs.Row.{pairing}
 use Rattle.row.proofs.Laws.{powers-of}
 use Rattle.run.specs.Frame.{shiftRow}
-use Rattle.framed.proofs.shift_row.Statement.{statement}
-use Rattle.framed.proofs.shift_row.Tie as tie
+use Rattle.shift.proofs.shift_row.Statement.{statement}
+use Rattle.shift.proofs.shift_row.Tie as tie
 
 mul-last : tie.Need-mul-last
 mul-last c = search needs

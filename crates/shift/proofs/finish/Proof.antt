@@ -1,4 +1,4 @@
--- `framed::finish` meets its contract. The written shifts are all 0 exactly if the verdict is clean.
+-- `shift::finish` meets its contract. The written shifts are all 0 exactly if the verdict is clean.
 -- Assumes nothing.
 use mathlib.Core.Path.{_≡_, sym, ap, _∙_}
 use mathlib.Core.List.{List, _++_}
@@ -14,9 +14,9 @@ use Rattle.row.proofs.Fill.{tab-length, tab-get}
 use Rattle.search.specs.Search.{all}
 use Rattle.search.proofs.Search.{all-same}
 use Rattle.run.specs.Frame.{shiftAt, noShift, verdictOf}
-use Rattle.framed.specs.Progress.{isZero}
-use Rattle.framed.proofs.finish.Statement.{statement}
-use Rattle.framed.proofs.finish.Tie as tie
+use Rattle.shift.specs.Verdict.{isZero}
+use Rattle.shift.proofs.finish.Statement.{statement}
+use Rattle.shift.proofs.finish.Tie as tie
 
 shift-rows-requires : tie.Need-shift-rows-requires
 shift-rows-requires c κs = search needs
