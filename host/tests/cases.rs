@@ -4,7 +4,7 @@ mod common;
 
 use cagvost::Refusal;
 use cagvost::book::{Book, DIMENSIONS, Operation};
-use common::{PAPER_BOOK, Rng, draw_tableau, plain, zero_tableau};
+use common::{PAPER_BOOK, Rng, draw_tableau, paper_book, plain, zero_tableau};
 
 /// The tableau and the results of a book from the given tableau.
 fn run(book: &Book, tableau: &[u8]) -> (Vec<u8>, Vec<u8>) {
@@ -201,14 +201,7 @@ fn no_operations_and_no_errors_keep_the_tableau() {
 
 #[test]
 fn the_book_of_45_bytes() {
-    let mut book = Book::new(3, 2);
-    book.operation(Operation::Fourier { q: 0 })
-        .operation(Operation::Sum { c: 0, t: 1 })
-        .strike(1, 1, 0)
-        .measure(0, 2)
-        .measure(1, 0);
-    assert_eq!(book.to_bytes(), PAPER_BOOK);
-    let (left, results) = run(&book, &zero_tableau(2));
+    let (left, results) = run(&paper_book(), &zero_tableau(2));
     assert_eq!(results, [2, 1, 0, 0]);
     #[rustfmt::skip]
     assert_eq!(left, [

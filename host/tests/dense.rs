@@ -4,7 +4,7 @@ mod common;
 
 use cagvost::book::{Book, DIMENSIONS, Operation};
 use common::dense::State;
-use common::{PAPER_BOOK, Rng, Shape, draw_book, zero_tableau};
+use common::{Rng, Shape, draw_book, paper_book, zero_tableau};
 
 /// Rounding in a run of some dozens of gates stays far below, 1/d and a root's step far above.
 const CLOSE: f64 = 1e-9;
@@ -199,14 +199,7 @@ fn every_error_at_every_place() {
 /// The specification's cases without a star that a state vector can hold.
 #[test]
 fn cases_without_a_star() {
-    let mut book = Book::new(3, 2);
-    book.operation(Operation::Fourier { q: 0 })
-        .operation(Operation::Sum { c: 0, t: 1 })
-        .strike(1, 1, 0)
-        .measure(0, 2)
-        .measure(1, 0);
-    assert_eq!(book.to_bytes(), PAPER_BOOK);
-    follow(&book, &mut Seen::default());
+    follow(&paper_book(), &mut Seen::default());
     for d in DIMENSIONS {
         follow(&Book::new(d, 1), &mut Seen::default());
     }

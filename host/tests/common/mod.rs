@@ -14,6 +14,18 @@ pub const PAPER_BOOK: [u8; 45] = [
     0x00, 0x00, 0x06, 0x01, 0x00, 0x00, 0x02, 0x00, 0x01, 0x01, 0x00, 0x02, 0x00,
 ];
 
+/// The same book, built; its bytes are held to the specification's.
+pub fn paper_book() -> Book {
+    let mut book = Book::new(3, 2);
+    book.operation(Operation::Fourier { q: 0 })
+        .operation(Operation::Sum { c: 0, t: 1 })
+        .strike(1, 1, 0)
+        .measure(0, 2)
+        .measure(1, 0);
+    assert_eq!(book.to_bytes(), PAPER_BOOK);
+    book
+}
+
 // ---- Drawing
 
 /// splitmix64: small, and the same on every machine.
