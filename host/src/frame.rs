@@ -35,8 +35,8 @@ pub const fn frame_len(n: usize) -> usize {
 ///
 /// The choices are those of the run without errors. What is written into `results` are the reported
 /// results: the clean ones plus the frame's X power on the measured qudit. At the end each row's
-/// phase is shifted by its pairing with the frame; `shifts` has these shifts in row order, and
-/// `frame` the final frame. What both buffers held before does not matter.
+/// phase is shifted by the pairing of the frame with that row; `shifts` has these shifts in row
+/// order, and `frame` the final frame. What both buffers held before does not matter.
 ///
 /// ```
 /// use cagvost::Verdict;

@@ -5,8 +5,8 @@ use std::fmt;
 
 /// Why a call refused: one variant for each listed number, with the place where it says one.
 ///
-/// A refusal leaves every lent buffer as it was. The only exception is [`Refusal::NotZ`], which
-/// cannot come from a run that has tested its tableau, and every run does.
+/// A refusal leaves every lent buffer as it was. The only exception is [`Refusal::NotZ`], which is
+/// proved never to come for a tableau that passes the test, and every run tests its tableau first.
 ///
 /// ```
 /// let refusal = cagvost::test_tableau(&[], 9, 1).unwrap_err();
@@ -47,7 +47,8 @@ pub enum Refusal {
     ShortBuffer,
     /// 9: the lent tableau is not a valid one for this dimension and number of qudits.
     InvalidTableau,
-    /// 10: the rows contradict a measurement that ought to be certain.
+    /// 10: the rows contradict a measurement that ought to be certain. It leaves the tableau as
+    /// before that measurement and the results so far written; all else is unchanged.
     NotZ {
         /// The measurement, counted from 0.
         measurement: usize,

@@ -2,9 +2,9 @@
 
 mod common;
 
-use cagvost::book::{Book, DIMENSIONS, MAX_ERRORS, MAX_OPERATIONS, Operation};
+use cagvost::book::{Book, DIMENSIONS, MAX_ERRORS, MAX_OPERATIONS};
 use common::plain::{self, Row};
-use common::{Rng, Run, Shape, draw_book, draw_tableau, run_both, with_tail};
+use common::{Rng, Run, Shape, UNWRITTEN, draw_book, draw_tableau, run_both, with_tail};
 
 /// How often each kind of measurement was seen.
 #[derive(Default)]
@@ -161,7 +161,7 @@ fn measure_with_two_pivots(rng: &mut Rng, d: u8, n: u8) -> bool {
         return false;
     };
     let book = Book::new(d, n).measure(q, m).to_bytes();
-    let run = run_both(&book, &tableau, &[9; 2]);
+    let run = run_both(&book, &tableau, &[UNWRITTEN; 2]);
     assert_eq!(run.results, [m, 1]);
     let measured = plain::z_on(count, q.into(), i64::from((d - m) % d));
     let bytes = plain::bytes_of(&[measured]);
@@ -181,31 +181,40 @@ fn the_lowest_pivot_is_taken() {
     }
 }
 
-/// Worked by hand: three qutrits in a row of SUMs, so that three stabilizers have an X power on
-/// qudit 2.
+/// Worked by hand from the specification's measuring rules, with d = 5, qudit 2 and choice 1.
+///
+/// Stabilizers 0 and 1 have an X power on qudit 2. The pivot P is the lower one, stabilizer 0, with
+/// e = 2: 1/e is 3, for 2·3 = 6, and e in its stead would show. P has phase 3 and Σ a·b = 2·2 = 4,
+/// so P^h has phase 3h + 4·h(h−1)/2:
+/// - P^1 is (2,0,2, 0,0,2) with phase 3;
+/// - P^2 is (4,0,4, 0,0,4) with phase 6 + 4 = 10, that is 0;
+/// - P^3 is (1,0,1, 0,0,1) with phase 9 + 12 = 21, that is 1.
 #[test]
 fn the_lowest_pivot_by_hand() {
-    let mut book = Book::new(3, 3);
-    for q in 0..3 {
-        book.operation(Operation::Fourier { q });
-    }
-    book.operation(Operation::Sum { c: 0, t: 2 })
-        .operation(Operation::Sum { c: 1, t: 2 })
-        .measure(2, 1);
-    let run = run_both(&book.to_bytes(), &common::zero_tableau(3), &[0; 2]);
+    #[rustfmt::skip]
+    let before = [
+        0, 0, 0, 2, 0, 0, 4,
+        0, 0, 0, 0, 3, 0, 2,
+        0, 0, 1, 0, 0, 1, 0,
+        2, 0, 2, 0, 0, 2, 3,
+        0, 3, 3, 0, 0, 3, 3,
+        0, 0, 0, 4, 4, 1, 4,
+    ];
+    let book = Book::new(5, 3).measure(2, 1).to_bytes();
+    let run = run_both(&book, &before, &[UNWRITTEN; 2]);
     assert_eq!(run.results, [1, 1]);
     #[rustfmt::skip]
     assert_eq!(run.tableau, [
-        1, 0, 1, 0, 0, 0, 0, // the pivot X² · X² on 0 and 2, to the power 1/2
-        0, 0, 0, 0, 1, 0, 0,
-        0, 0, 0, 2, 2, 1, 0,
-        0, 0, 0, 0, 0, 1, 2, // Z on 2 with phase −1
-        1, 2, 0, 0, 0, 0, 0, // the others times the pivot to the power −2/2
-        1, 0, 0, 0, 0, 0, 0,
+        1, 0, 1, 0, 0, 1, 1, // P^(1/e) = P^3
+        0, 0, 0, 0, 3, 0, 2, // f = 0: times P^0
+        4, 0, 0, 0, 0, 0, 4, // f = 1: times P^(−1·3) = P^2; phase 0 + 0 + 1·4
+        0, 0, 0, 0, 0, 1, 4, // Z on 2, phase −1
+        2, 3, 0, 0, 0, 0, 2, // f = 3: times P^(−3·3) = P^1; phase 3 + 3 + 3·2 = 12
+        0, 0, 0, 4, 4, 1, 4, // f = 0: times P^0
     ]);
 }
 
-// ---- Demand 3 on the plain reference, whose frame run waits for the library's
+// ---- Demand 3 on the plain reference, which frame.rs holds the library's frame run against
 
 /// The rows after a direct run with raised choices, and after a frame run.
 fn carried_and_struck(rng: &mut Rng, d: u8, n: u8) {
@@ -222,10 +231,11 @@ fn carried_and_struck(rng: &mut Rng, d: u8, n: u8) {
     let raised = plain::raised_choices(&plain::read(&first).expect("an accepted book"));
     book.choices_mut().copy_from_slice(&raised);
     let tableau = draw_tableau(rng, d, n);
-    let room = vec![0; 2 * book.measurements()];
+    let room = vec![UNWRITTEN; 2 * book.measurements()];
     let struck = run_both(&book.to_bytes(), &tableau, &room);
     let (mut carried, mut results) = (tableau, room);
-    let (mut shifts, mut frame) = (vec![0; 2 * usize::from(n)], vec![0; 2 * usize::from(n)]);
+    let mut shifts = vec![UNWRITTEN; 2 * usize::from(n)];
+    let mut frame = shifts.clone();
     let told = plain::frame_run(&first, &mut carried, &mut results, &mut shifts, &mut frame);
     assert_eq!((told.0, told.1), struck.told);
     assert_eq!(results, struck.results);

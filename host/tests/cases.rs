@@ -4,12 +4,12 @@ mod common;
 
 use cagvost::Refusal;
 use cagvost::book::{Book, DIMENSIONS, Operation};
-use common::{PAPER_BOOK, Rng, draw_tableau, paper_book, plain, zero_tableau};
+use common::{PAPER_BOOK, Rng, UNWRITTEN, draw_tableau, paper_book, plain, zero_tableau};
 
 /// The tableau and the results of a book from the given tableau.
 fn run(book: &Book, tableau: &[u8]) -> (Vec<u8>, Vec<u8>) {
     let mut tableau = tableau.to_vec();
-    let mut results = vec![0; cagvost::results_len(book.measurements())];
+    let mut results = vec![UNWRITTEN; cagvost::results_len(book.measurements())];
     let told = cagvost::direct_run(&book.to_bytes(), &mut tableau, &mut results);
     assert_eq!(told, Ok(book.measurements()));
     (tableau, results)
@@ -113,6 +113,7 @@ const NO_COUNTS: [usize; 9] = [
 fn listed_dimensions_pass_and_others_are_refused_by_2() {
     let mut tableau = zero_tableau(1);
     for d in DIMENSIONS.map(usize::from) {
+        tableau.fill(UNWRITTEN);
         assert_eq!(cagvost::layer(&mut tableau, d, 1), Ok(()));
         assert_eq!(cagvost::test_tableau(&tableau, d, 1), Ok(()));
     }
@@ -146,7 +147,7 @@ fn every_dimension_byte_of_a_book() {
 
 #[test]
 fn one_to_64_qudits_pass_and_others_are_refused_by_3() {
-    let mut tableau = vec![0; cagvost::tableau_len(300)];
+    let mut tableau = vec![UNWRITTEN; cagvost::tableau_len(300)];
     for n in 1..=64 {
         assert_eq!(cagvost::layer(&mut tableau, 31, n), Ok(()));
         assert_eq!(cagvost::test_tableau(&tableau, 31, n), Ok(()));
@@ -235,8 +236,8 @@ fn starred_6_power_of_the_reference() {
 /// The listing of the specification, but for its words.
 #[test]
 fn the_book_of_45_bytes_as_frame_run_of_the_reference() {
-    let (mut tableau, mut results) = (zero_tableau(2), [9; 4]);
-    let (mut shifts, mut frame) = ([9; 4], [9; 4]);
+    let (mut tableau, mut results) = (zero_tableau(2), [UNWRITTEN; 4]);
+    let (mut shifts, mut frame) = ([UNWRITTEN; 4], [UNWRITTEN; 4]);
     let told = plain::frame_run(
         &PAPER_BOOK,
         &mut tableau,

@@ -1,10 +1,12 @@
-//! The direct run against a state vector: rows fix the state, marks and outcomes are its own.
+//! Both runs against a state vector: rows fix the state, marks and outcomes are its own, and a
+//! frame leads from the state without errors to the struck one.
 
 mod common;
 
+use cagvost::Verdict;
 use cagvost::book::{Book, DIMENSIONS, Operation};
 use common::dense::State;
-use common::{Rng, Shape, draw_book, paper_book, zero_tableau};
+use common::{Rng, Shape, UNWRITTEN, draw_book, paper_book, zero_tableau};
 
 /// Rounding in a run of some dozens of gates stays far below, 1/d and a root's step far above.
 const CLOSE: f64 = 1e-9;
@@ -12,35 +14,152 @@ const CLOSE: f64 = 1e-9;
 /// The largest state vector.
 const LEVELS: usize = 1000;
 
-/// How many measurements were seen free, and certain with an outcome other than 0.
+/// How many measurements were seen free, certain with an outcome other than 0, and reported by a
+/// frame run with another result than without errors.
 #[derive(Default)]
 struct Seen {
     free: usize,
     certain: usize,
+    moved: usize,
+}
+
+/// What a direct run left, and the state vector after the same book.
+struct Followed {
+    tableau: Vec<u8>,
+    results: Vec<u8>,
+    state: State,
 }
 
 /// Runs a book from the zero tableau and follows it on the state vector.
-fn follow(book: &Book, seen: &mut Seen) {
-    let (d, n) = (usize::from(book.dimension()), usize::from(book.qudits()));
+fn follow(book: &Book, seen: &mut Seen) -> Followed {
     let mut tableau = zero_tableau(book.qudits());
-    let mut results = vec![0; cagvost::results_len(book.measurements())];
+    let mut results = vec![UNWRITTEN; cagvost::results_len(book.measurements())];
     cagvost::direct_run(&book.to_bytes(), &mut tableau, &mut results).expect("an accepted book");
-    assert_eq!(cagvost::test_tableau(&tableau, d, n), Ok(()), "{book:?}");
+    for (result, choice) in results.chunks(2).zip(book.choices()) {
+        assert!(result[1] == 0 || result[0] == *choice, "{book:?}");
+    }
     let state = replay(book, &results, seen);
-    for (i, row) in tableau.chunks(2 * n + 1).skip(n).enumerate() {
-        let mut moved = state.clone();
-        moved.apply_row(row);
+    check_rows(&tableau, &state, book);
+    Followed {
+        tableau,
+        results,
+        state,
+    }
+}
+
+/// What a frame run left.
+struct Carried {
+    tableau: Vec<u8>,
+    results: Vec<u8>,
+    shifts: Vec<u8>,
+    frame: Vec<u8>,
+    verdict: Verdict,
+}
+
+/// Carries the book's errors from the zero tableau.
+fn carry(book: &Book) -> Carried {
+    let n = usize::from(book.qudits());
+    let mut tableau = zero_tableau(book.qudits());
+    let mut results = vec![UNWRITTEN; cagvost::results_len(book.measurements())];
+    let mut shifts = vec![UNWRITTEN; cagvost::shifts_len(n)];
+    let mut frame = vec![UNWRITTEN; cagvost::frame_len(n)];
+    let bytes = book.to_bytes();
+    let run = cagvost::frame_run(&bytes, &mut tableau, &mut results, &mut shifts, &mut frame)
+        .expect("an accepted book");
+    Carried {
+        tableau,
+        results,
+        shifts,
+        frame,
+        verdict: run.verdict,
+    }
+}
+
+/// Carries the book's errors as a frame, and strikes them on the state vector: the reported results
+/// are possible there, the shifted rows fix it, and the frame makes it of the state without errors.
+fn follow_frame(book: &Book, seen: &mut Seen) -> Carried {
+    let carried = carry(book);
+    let state = replay(book, &carried.results, &mut Seen::default());
+    check_rows(&carried.tableau, &state, book);
+    let clean = follow(&without_errors(book), &mut Seen::default());
+    check_shifts(&carried, &clean.tableau, book);
+    let framed = check_frame(&carried, &clean, book);
+    assert!(
+        (framed.overlap(&state) - 1.0).abs() < CLOSE,
+        "the frame of {book:?} leads to another state"
+    );
+    let pairs = carried.results.iter().zip(&clean.results);
+    seen.moved += pairs.filter(|(reported, clean)| reported != clean).count();
+    carried
+}
+
+/// Destabilizers fix no state, but a row and then the frame must do the same as the frame and then
+/// the shifted row. Returns what the frame makes of the state without errors.
+fn check_frame(carried: &Carried, clean: &Followed, book: &Book) -> State {
+    let n = usize::from(book.qudits());
+    let frame = [&carried.frame[..], &[0]].concat();
+    let framed = after(&clean.state, &frame);
+    let shifted = carried.tableau.chunks(2 * n + 1);
+    let rows = clean.tableau.chunks(2 * n + 1).zip(shifted);
+    for (i, (row, shifted)) in rows.take(n).enumerate() {
+        let moved = after(&after(&clean.state, row), &frame);
         assert!(
-            moved.distance(&state) < CLOSE,
+            moved.distance(&after(&framed, shifted)) < CLOSE,
+            "the shift of destabilizer {i} of {book:?}"
+        );
+    }
+    framed
+}
+
+/// The state after a row.
+fn after(state: &State, row: &[u8]) -> State {
+    let mut moved = state.clone();
+    moved.apply_row(row);
+    moved
+}
+
+/// The same circuit and choices, struck by nothing.
+fn without_errors(book: &Book) -> Book {
+    let mut clean = Book::new(book.dimension(), book.qudits());
+    book.operations()
+        .iter()
+        .for_each(|&o| _ = clean.operation(o));
+    book.choices().iter().for_each(|&c| _ = clean.choice(c));
+    clean
+}
+
+/// The tableau is valid, and its stabilizers fix the state.
+fn check_rows(tableau: &[u8], state: &State, book: &Book) {
+    let (d, n) = (usize::from(book.dimension()), usize::from(book.qudits()));
+    assert_eq!(cagvost::test_tableau(tableau, d, n), Ok(()), "{book:?}");
+    for (i, row) in tableau.chunks(2 * n + 1).skip(n).enumerate() {
+        assert!(
+            after(state, row).distance(state) < CLOSE,
             "stabilizer {i} of {book:?} does not fix the state"
         );
     }
 }
 
+/// Each row is that of the run without errors, its phase raised by its shift; the verdict says
+/// whether there is a shift.
+fn check_shifts(carried: &Carried, clean: &[u8], book: &Book) {
+    let (d, phase) = (book.dimension(), 2 * usize::from(book.qudits()));
+    let below_d = |bytes: &[u8]| bytes.iter().all(|&x| x < d);
+    assert!(below_d(&carried.shifts), "shifts of {book:?}");
+    assert!(below_d(&carried.frame), "frame of {book:?}");
+    let mut rows = clean.to_vec();
+    for (row, shift) in rows.chunks_mut(phase + 1).zip(&carried.shifts) {
+        row[phase] = (row[phase] + shift) % d;
+    }
+    assert_eq!(carried.tableau, rows, "{book:?}");
+    let shifted = carried.shifts.iter().any(|&shift| shift != 0);
+    assert_eq!(carried.verdict == Verdict::Shifted, shifted, "{book:?}");
+}
+
 /// The state after the book, each measurement checked with the result that the run gave.
 fn replay(book: &Book, results: &[u8], seen: &mut Seen) -> State {
     let mut state = State::zero(book.dimension().into(), book.qudits().into());
-    let mut measured = results.chunks(2).zip(book.choices());
+    let mut measured = results.chunks(2);
     for k in 0..=book.operations().len() {
         for &error in book.errors().iter().filter(|e| usize::from(e.place) == k) {
             state.strike(error);
@@ -48,9 +167,8 @@ fn replay(book: &Book, results: &[u8], seen: &mut Seen) -> State {
         match book.operations().get(k) {
             None => {}
             Some(&Operation::Measure { q }) => {
-                let (result, &choice) = measured.next().expect("a result per measurement");
-                let probabilities = state.probabilities(q);
-                check_result(&probabilities, result, choice, book);
+                let result = measured.next().expect("a result per measurement");
+                check_result(&state.probabilities(q), result, book);
                 seen.free += usize::from(result[1] == 1);
                 seen.certain += usize::from(result[1] == 0 && result[0] != 0);
                 state.collapse(q, result[0].into());
@@ -61,15 +179,14 @@ fn replay(book: &Book, results: &[u8], seen: &mut Seen) -> State {
     state
 }
 
-/// A certain result has probability 1; a free one is the choice, and all outcomes are alike.
-fn check_result(probabilities: &[f64], result: &[u8], choice: u8, book: &Book) {
+/// A certain result has probability 1; where one is free, all outcomes are alike.
+fn check_result(probabilities: &[f64], result: &[u8], book: &Book) {
     let near = |x: f64, y: f64| (x - y).abs() < CLOSE;
     match *result {
         [outcome, 0] => assert!(near(probabilities[usize::from(outcome)], 1.0), "{book:?}"),
-        [outcome, 1] => {
+        [_, 1] => {
             let each = 1.0 / probabilities.len() as f64;
             assert!(probabilities.iter().all(|&p| near(p, each)), "{book:?}");
-            assert_eq!(outcome, choice, "{book:?}");
         }
         _ => panic!("mark is neither 0 nor 1: {book:?}"),
     }
@@ -92,14 +209,19 @@ fn follow_drawn_circuits(d: u8) {
                 errors: rng.below(12),
                 measure_one_in: 2 + rng.below(8),
             };
-            follow(&draw_book(&mut rng, shape), &mut seen);
+            let book = draw_book(&mut rng, shape);
+            follow(&book, &mut seen);
+            follow_frame(&book, &mut seen);
         }
     }
+    let Seen {
+        free,
+        certain,
+        moved,
+    } = seen;
     assert!(
-        seen.free > 100 && seen.certain > 100,
-        "free {} certain {}",
-        seen.free,
-        seen.certain
+        free > 100 && certain > 100 && moved > 100,
+        "free {free} certain {certain} moved {moved}"
     );
 }
 
@@ -192,15 +314,31 @@ fn every_error_at_every_place() {
                 s,
             });
             follow(&book, &mut Seen::default());
+            follow_frame(&book, &mut Seen::default());
         }
     }
 }
 
-/// The specification's cases without a star that a state vector can hold.
+/// The specification's cases without a star that a state vector can hold, by both runs: the listing
+/// of the 45-byte book but for its words, and the book without operations and errors.
 #[test]
 fn cases_without_a_star() {
-    follow(&paper_book(), &mut Seen::default());
-    for d in DIMENSIONS {
-        follow(&Book::new(d, 1), &mut Seen::default());
+    let mut seen = Seen::default();
+    let paper = paper_book();
+    follow(&paper, &mut seen);
+    let carried = follow_frame(&paper, &mut seen);
+    assert_eq!(carried.results, [2, 1, 0, 0]);
+    assert_eq!(carried.shifts, [0, 0, 0, 2]);
+    assert_eq!(carried.verdict, Verdict::Shifted);
+    for (d, n) in DIMENSIONS
+        .into_iter()
+        .flat_map(|d| small_sizes(d).map(move |n| (d, n)))
+    {
+        let empty = Book::new(d, n);
+        assert_eq!(follow(&empty, &mut seen).tableau, zero_tableau(n));
+        let carried = follow_frame(&empty, &mut seen);
+        assert_eq!(carried.tableau, zero_tableau(n));
+        assert_eq!(carried.shifts, vec![0; 2 * usize::from(n)]);
+        assert_eq!(carried.verdict, Verdict::Clean);
     }
 }

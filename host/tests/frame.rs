@@ -5,7 +5,7 @@ mod common;
 
 use cagvost::book::{Book, DIMENSIONS, MAX_ERRORS, MAX_OPERATIONS, Operation, WeylError};
 use cagvost::{FrameRun, Verdict};
-use common::{PAPER_BOOK, Rng, Shape, plain, run_both};
+use common::{PAPER_BOOK, Rng, Shape, UNWRITTEN, plain, run_both};
 use common::{draw_book, draw_tableau, with_tail, zero_tableau};
 
 /// The four buffers of a frame run.
@@ -37,9 +37,9 @@ impl Buffers {
     fn zero(n: u8, measurements: usize) -> Buffers {
         Buffers {
             tableau: zero_tableau(n),
-            results: vec![9; 2 * measurements],
-            shifts: vec![9; 2 * usize::from(n)],
-            frame: vec![9; 2 * usize::from(n)],
+            results: vec![UNWRITTEN; 2 * measurements],
+            shifts: vec![UNWRITTEN; 2 * usize::from(n)],
+            frame: vec![UNWRITTEN; 2 * usize::from(n)],
         }
     }
 

@@ -8,8 +8,8 @@ mod common;
 use cagvost::book::{Book, DIMENSIONS, MAX_CHOICES, MAX_ERRORS, MAX_OPERATIONS};
 use cagvost::book::{Operation, WeylError};
 use common::plain::{Told, is_valid, read};
-use common::{PAPER_BOOK, Rng, Shape, draw_book, draw_tableau, with_tail, zero_tableau};
-use common::{layer_both, run_both, test_both};
+use common::{PAPER_BOOK, Rng, Shape, UNWRITTEN, layer_both, run_both, test_both};
+use common::{draw_book, draw_tableau, with_tail, zero_tableau};
 
 /// Where the bodies of a book begin.
 const BODIES: usize = 22;
@@ -21,7 +21,7 @@ fn answer(book: &[u8]) -> Told {
         .copied()
         .filter(|n| (1..=64).contains(n))
         .unwrap_or(1);
-    let results = vec![0xA5; 2 * MAX_CHOICES];
+    let results = vec![UNWRITTEN; 2 * MAX_CHOICES];
     run_both(book, &zero_tableau(n), &results).told
 }
 
@@ -259,13 +259,14 @@ fn earlier_numbers_win_over_later_ones() {
     let mut rng = Rng(8);
     let mut invalid = zero_tableau(3);
     invalid[0] = 2;
+    let results = [UNWRITTEN; 4];
     assert_eq!(run_both(&book, &[], &[]).told, (8, 0));
     for (place, byte, told) in faults {
         book[place] = byte;
         // A bad book beats short buffers and an invalid tableau.
-        assert_eq!(run_both(&book, &zero_tableau(3), &[0; 4]).told, told);
+        assert_eq!(run_both(&book, &zero_tableau(3), &results).told, told);
         assert_eq!(run_both(&book, &[], &[]).told, told);
-        assert_eq!(run_both(&book, &invalid, &[0; 4]).told, told);
+        assert_eq!(run_both(&book, &invalid, &results).told, told);
         let junk = rng.bytes(50);
         assert_eq!(run_both(&book, &junk, &junk).told, told);
     }
@@ -280,7 +281,7 @@ fn refusal_8_short_buffers() {
         let mut book = Book::new(7, n);
         (0..n).for_each(|q| _ = book.measure(q, 1));
         let (book, tableau) = (book.to_bytes(), draw_tableau(&mut rng, 7, n));
-        let (needed, results) = (tableau.len(), vec![0xEE; 2 * usize::from(n)]);
+        let (needed, results) = (tableau.len(), vec![UNWRITTEN; 2 * usize::from(n)]);
         assert_eq!(run_both(&book, &tableau, &results).told, (0, n.into()));
         for length in [0, 1, needed / 2, needed - 1] {
             let short = &tableau[..length];
@@ -330,7 +331,7 @@ fn refusal_9_every_byte_of_a_small_tableau() {
             let damaged = with_byte(&tableau, place, byte);
             let told = test_both(&damaged, 3, 2);
             assert!(told == (0, 0) || told == (9, 0));
-            assert_eq!(run_both(&book, &damaged, &[0; 4]).told.0, told.0);
+            assert_eq!(run_both(&book, &damaged, &[UNWRITTEN; 4]).told.0, told.0);
         }
     }
 }
@@ -519,7 +520,7 @@ fn random_bytes_as_bodies_and_tableaus() {
             .iter_mut()
             .for_each(|x| *x = rng.byte_below(end));
         let tableau: Vec<u8> = (0..42).map(|_| rng.byte_below(3)).collect();
-        let told = run_both(&book, &tableau, &[7; 16]).told;
+        let told = run_both(&book, &tableau, &[UNWRITTEN; 16]).told;
         let accepted = read(&book).is_ok_and(|book| is_valid(book.d, book.n, &tableau));
         assert_eq!(told.0 == 0, accepted);
     }

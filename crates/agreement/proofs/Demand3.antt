@@ -22,7 +22,7 @@ use Rattle.carrying.proofs.Buffers.{carried}
 use Rattle.direct.specs.DirectBook.{directTold, directBook}
 use Rattle.framed.specs.FrameBook.{frameRoomy, frameTold, frameBook}
 use Rattle.agreement.specs.Agreement.{raisedBook, Demand3}
-use Rattle.agreement.proofs.Second.{second-choices, second-accepted}
+use Rattle.agreement.proofs.Second.{second-accepted}
 
 -- validity depends on the needed bytes alone
 valid-window : {d n : ℕ} {t u : List ℕ} → Window n t u → Valid d n t → Valid d n u
@@ -75,7 +75,7 @@ demand3 s d n operations errors choices e t t' results results' shifts frame roo
     rw (
       direct-left (raisedBook d n s) (second .accepts) t' results' room' (valid-exactly d n dim t' room' .1 v') (rw (second .same-operations) r')
           (a .struck)
-          (rw (second .same-operations, second .same-errors, second-choices s e) (a .struck-is)),
+          (rw (second .same-operations, second .same-errors, second .raised-choices) (a .struck-is)),
       frame-left s e t results room ok r shifts frame rs rf (a .carried) (a .carried-is),
     )
     (record {

@@ -27,11 +27,6 @@ module _ {d n operations errors choices : ℕ} (s : List ℕ) (e : readBook s �
       (raised-length d n (opsIn s d n) (errorsIn s) (noFrame n) (choicesIn s))
       (with-raised (m .lists) (omega (arith, dimension d (m .dimension-listed) .low)) (noFrame n) .below)
 
-  -- its choices are the raised ones
-  pub second-choices : choicesIn (raisedBook d n s) ≡ raisedIn
-  unfolding raisedBook
-  second-choices = chosen .choices
-
 pub second-accepted : SecondAccepted
 unfolding raisedBook
 second-accepted s d n operations errors choices e =
@@ -40,6 +35,7 @@ second-accepted s d n operations errors choices e =
       accepts = r .accepts;
       same-operations = r .operations;
       same-errors = r .errors;
+      raised-choices = r .choices;
       same-length = r .len;
       same-start = r .start;
     }

@@ -19,11 +19,12 @@ use Rattle.framed.specs.FrameBook.{FrameLeft, frameBook}
 unfoldable pub raisedBook : ℕ → ℕ → List ℕ → List ℕ
 raisedBook d n s = take (offsetOf s 16) s ++ raised d n (opsIn s d n) (errorsIn s) (noFrame n) (choicesIn s)
 
--- It is accepted with the same numbers, and has the same operations and errors.
+-- It is accepted with the same numbers, has the same operations and errors, and its choices are the raised ones.
 pub record Second (d n operations errors choices : ℕ) (s : List ℕ) : Type 0 where
   pub accepts : readBook (raisedBook d n s) ≡ accepted d n operations errors choices
   pub same-operations : bodyOf (raisedBook d n s) 1 ≡ bodyOf s 1
   pub same-errors : bodyOf (raisedBook d n s) 2 ≡ bodyOf s 2
+  pub raised-choices : choicesIn (raisedBook d n s) ≡ raised d n (opsIn s d n) (errorsIn s) (noFrame n) (choicesIn s)
   pub same-length : length (raisedBook d n s) ≡ length s
   pub same-start : take (offsetOf s 16) (raisedBook d n s) ≡ take (offsetOf s 16) s
 

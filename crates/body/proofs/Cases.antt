@@ -2,24 +2,10 @@
 -- Assumes nothing.
 use mathlib.Core.Path.{_≡_, refl}
 use mathlib.Core.List.{[], _∷_}
-use Rattle.operation.specs.declared.Operation.the-variants.{Fourier, Sum, Multiplier}
 use Rattle.search.specs.declared.Place.the-variants.{At, Nowhere}
-use Rattle.body.specs.declared.Decoded.the-variants.{Good, Bad}
 use Rattle.search.specs.Search.{firstNot}
-use Rattle.body.specs.Entry.{word, decoded, errorAt}
+use Rattle.entries.specs.Entry.{decoded, errorAt}
 use Rattle.body.specs.Body.{badOperation, measurements, goodError, badError, badChoice, refused, accepted, readBodies}
-
--- low byte first
-pub words : word (2 ∷ 1 ∷ []) 0 ≡ 258
-words = refl
-
--- Of dimension 3 and two qudits: a code above 6, a qudit not below n, c = t, a byte not named and the multipliers 0 and 3 are bad.
-pub entries :
-    (decoded 3 2 0 1 0 0 ≡ Good (Fourier 1)) × (decoded 3 2 7 1 0 0 ≡ Bad) × (decoded 3 2 0 2 0 0 ≡ Bad)
-    × (decoded 3 2 2 1 0 0 ≡ Good (Sum 1 0)) × (decoded 3 2 2 1 1 0 ≡ Bad) × (decoded 3 2 2 1 0 1 ≡ Bad)
-    × (decoded 3 2 5 1 0 1 ≡ Good (Multiplier 1 1)) × (decoded 3 2 5 1 0 0 ≡ Bad) × (decoded 3 2 5 1 0 3 ≡ Bad)
-unfolding decoded
-entries = (refl, refl, refl, refl, refl, refl, refl, refl, refl)
 
 -- the first bad one, and not the last
 pub first-bad : badOperation 3 2 (0 ∷ 2 ∷ 0 ∷ 0 ∷ 7 ∷ 0 ∷ 0 ∷ 0 ∷ []) ≡ At 0

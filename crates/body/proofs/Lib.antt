@@ -1,5 +1,3 @@
--- What other proofs use; the bytes of an operation; worked cases.
+-- What other proofs use; worked cases.
 pub mod Sound
-pub mod Steps
-pub mod Spelling
 pub mod Cases

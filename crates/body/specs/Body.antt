@@ -8,12 +8,12 @@ use Rattle.operation.specs.declared.WeylError.{WeylError}
 use Rattle.operation.specs.Error.{errorAllowed}
 use Rattle.search.specs.declared.Place.{Place}
 use Rattle.search.specs.declared.Place.the-variants.{At, Nowhere}
-use Rattle.body.specs.declared.Decoded.{Decoded}
-use Rattle.body.specs.declared.Decoded.the-variants.{Good, Bad}
+use Rattle.entries.specs.declared.Decoded.{Decoded}
+use Rattle.entries.specs.declared.Decoded.the-variants.{Good, Bad}
 use Rattle.body.specs.declared.Reading.{Reading}
 use Rattle.body.specs.declared.Reading.the-variants.{Accepted, Refused}
 use Rattle.search.specs.Search.{unless, firstNot}
-use Rattle.body.specs.Entry.{operationAt, errorAt}
+use Rattle.entries.specs.Entry.{operationAt, errorAt}
 
 -- whole entries of `size` bytes, at most `most`
 abbrev pub lengthFits : (length size most : ℕ) → Bool
@@ -31,13 +31,9 @@ unfoldable pub badOperation : ℕ → ℕ → List ℕ → Place
 badOperation d n ops = firstNot (goodOperation d n ops) (length ops / 4)
 
 -- the measurements among the first k operations: those of code 6
-abbrev pub oneIf : Bool → ℕ
-oneIf true = 1
-oneIf false = 0
-
 unfoldable pub measurements : List ℕ → ℕ → ℕ
 measurements ops zero = 0
-measurements ops (suc k) = measurements ops k + oneIf (eqb (getD ops (4 * k) 0) 6)
+measurements ops (suc k) = measurements ops k + cond (eqb (getD ops (4 * k) 0) 6) 1 0
 
 -- 6: first bad error: place too high or falling, qudit not below n, p or s not below d. The first has nothing to fall from.
 abbrev pub placeBefore : List ℕ → ℕ → ℕ

@@ -6,7 +6,7 @@ use Prim.Native.Nat.{ℕ}
 use lib.ListN.{set}
 use Rattle.modular.specs.Dimension.{listed}
 use Rattle.search.specs.Search.{firstNot}
-use Rattle.body.specs.Entry.{decoded, errorAt}
+use Rattle.entries.specs.Entry.{decoded, errorAt}
 use Rattle.body.specs.Body.{badOperation, measurements, goodError, badError, badChoice, refused, accepted, readBodies}
 use Rattle.book.specs.Book.{headed, entryFits, badContents, readBook, bodyOf}
 
@@ -33,6 +33,13 @@ pub headers :
     × (readBook (set (set example 1 9) 2 0) ≡ refused 2 0) × (readBook (set (set example 2 0) 4 2) ≡ refused 3 0)
 unfolding listed headed readBook
 headers = (refl, refl, refl, refl, refl)
+
+-- d 31 and n 64 pass, d 37 and n 0 do not
+pub sizes :
+    (readBook (set example 1 31) ≡ accepted 31 2 4 1 2) × (readBook (set example 1 37) ≡ refused 2 0)
+    × (readBook (set example 2 64) ≡ accepted 3 64 4 1 2) × (readBook (set example 2 0) ≡ refused 3 0)
+unfolding listed firstNot decoded errorAt measurements badOperation goodError badError badChoice readBodies headed entryFits badContents readBook
+sizes = (refl, refl, refl, refl)
 
 -- 4: kind, zero byte, offset and length of entry 1; a length that is whole and false shows as the next one's offset; a wrong end alone
 pub contents :

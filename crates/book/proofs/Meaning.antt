@@ -2,7 +2,7 @@
 -- let through. Assumes nothing.
 use mathlib.Core.Path.{_≡_, refl, sym, ap, subst, _∙_}
 use mathlib.Core.Logic.{⊎-elim}
-use mathlib.Core.Bool.{true, _&&_, false≢true, and-eq-true-iff}
+use mathlib.Core.Bool.{cond, true, _&&_, false≢true, and-eq-true-iff}
 use mathlib.Core.List.{List, [], _∷_}
 use Prim.Native.Nat.{ℕ, zero, suc, _+_, _*_, _/_, _<_, _≤_}
 use native.Mathlib.Nat.{eq-or-lt-of-le, le-refl, le-trans, le-of-suc-le-suc}
@@ -14,13 +14,13 @@ use Rattle.operation.specs.declared.Operation.{Operation}
 use Rattle.operation.specs.declared.Operation.the-variants.{Fourier, PhaseGate, Sum, Cz, Swap, Multiplier, Measure}
 use Rattle.operation.specs.Operation.{allowed}
 use Rattle.operation.specs.Error.{errorAllowed}
-use Rattle.circuit.specs.Circuit.{tally, measured, Accepted}
-use Rattle.body.specs.declared.Decoded.{Decoded}
-use Rattle.body.specs.declared.Decoded.the-variants.{Good, Bad}
-use Rattle.body.specs.Entry.{bytesOf, operationAt, errorAt}
-use Rattle.body.specs.Body.{isGood, oneIf, measurements, placeBefore, goodError, Told, refused, accepted}
+use Rattle.circuit.specs.Circuit.{tally, measured, Strikes, Accepted}
+use Rattle.entries.specs.declared.Decoded.{Decoded}
+use Rattle.entries.specs.declared.Decoded.the-variants.{Good, Bad}
+use Rattle.entries.specs.Entry.{bytesOf, operationAt, errorAt}
+use Rattle.body.specs.Body.{isGood, measurements, placeBefore, goodError, Told, refused, accepted}
 use Rattle.body.proofs.Sound.{no-refusal, Sound, all-sound, each-operation, each-error, one-each, each-choice}
-use Rattle.body.proofs.Spelling.{spelled}
+use Rattle.entries.proofs.Spelling.{spelled}
 use Rattle.book.specs.Book.{dimensionOf, quditsOf, partOf, bodyOf}
 use Rattle.book.specs.Decoded.{operationIn, operationOf, operationsOf, errorsOf, Means, AcceptedMeans}
 use Rattle.book.proofs.Contents.{all-passed, by-kind}
@@ -31,7 +31,7 @@ is-in (Good op) e = refl
 is-in Bad e = absurd (false≢true e)
 
 -- 1 for the code 6, else 0
-code-tally : (op : Operation) → tally op ≡ oneIf (eqb (getD (bytesOf op) 0 0) 6)
+code-tally : (op : Operation) → tally op ≡ cond (eqb (getD (bytesOf op) 0 0) 6) 1 0
 unfolding bytesOf
 code-tally (Fourier q) = refl
 code-tally (PhaseGate q) = refl
@@ -51,8 +51,8 @@ module _ {d n : ℕ} {os es cs : List ℕ} {t : Told} (sound : Sound d n os es c
   entry : (k : ℕ) → k < length os / 4 → (allowed d n (operationOf d n os k) ≡ true) × (entryOf os k ≡ bytesOf (operationOf d n os k))
   entry k h = spelled d n _ _ _ _ (operationOf d n os k) .0 (is-in (operationAt d n os k) (each-operation sound k h))
 
-  op-tally : (k : ℕ) → k < length os / 4 → tally (operationOf d n os k) ≡ oneIf (eqb (getD os (4 * k) 0) 6)
-  op-tally k h = code-tally (operationOf d n os k) ∙ ap (λ (bytes : List ℕ). oneIf (eqb (getD bytes 0 0) 6)) (sym (entry k h .1))
+  op-tally : (k : ℕ) → k < length os / 4 → tally (operationOf d n os k) ≡ cond (eqb (getD os (4 * k) 0) 6) 1 0
+  op-tally k h = code-tally (operationOf d n os k) ∙ ap (λ (bytes : List ℕ). cond (eqb (getD bytes 0 0) 6) 1 0) (sym (entry k h .1))
 
   op-measured : (k : ℕ) → k ≤ length os / 4 → measured (operationsOf d n os) k ≡ measurements os k
   unfolding measured measurements
@@ -75,17 +75,23 @@ module _ {d n : ℕ} {os es cs : List ℕ} {t : Told} (sound : Sound d n os es c
       ⊎-elim (λ (e : i ≡ suc j). rw e (le-refl _)) (λ (b : i < suc j). le-trans (ordered i j (le-of-suc-le-suc b) (omega arith)) (fits (suc j) l .1))
       (eq-or-lt-of-le h)
 
-  lists : Accepted d n (operationsOf d n os) (errorsOf es) cs
-  lists =
+  strikes : Strikes d n (errorsOf es)
+  strikes =
       record {
-        operations = λ k h. let l : k < length os / 4 = rw op-count at h in rw (op-at d n os k l) (entry k l .0);
-        strikes = λ j h. let l : j < length es / 5 = rw error-count at h in rw (error-at es j l) (fits j l .2);
-        places = λ j h. let l : j < length es / 5 = rw error-count at h in rw (error-at es j l, op-count) (fits j l .0);
+        each = λ j h. let l : j < length es / 5 = rw error-count at h in rw (error-at es j l) (fits j l .2);
         in-order =
             λ i j h l.
             let lj : j < length es / 5 = rw error-count at l in
             let li : i < length es / 5 = omega arith in
             rw (error-at es i li, error-at es j lj) (ordered i j h lj);
+      }
+
+  lists : Accepted d n (operationsOf d n os) (errorsOf es) cs
+  lists =
+      record {
+        operations = λ k h. let l : k < length os / 4 = rw op-count at h in rw (op-at d n os k l) (entry k l .0);
+        strikes = strikes;
+        places = λ j h. let l : j < length es / 5 = rw error-count at h in rw (error-at es j l, op-count) (fits j l .0);
         one-each = rw op-count (one-each sound ∙ sym (op-measured _ (le-refl _)));
         below = λ j h. ltb-true _ _ (each-choice sound j h);
       }
@@ -113,5 +119,6 @@ accepted-means s d n operations errors choices e =
       error-count = rw b2 (error-count _);
       choice-count = ap length b3;
       measurement-count = rw b1 (op-measured sound _ (le-refl _) ∙ sym (one-each sound));
+      code-count = rw b1 (sym (one-each sound));
       lists = rw (b1, b2, b3) (lists sound);
     })

@@ -10,7 +10,7 @@ use lib.Seq.{length-take-le, take-length, getD-take, getD-drop, ext-getD, take-a
 use borrow.Author.Tests.{lt-ltb, eq-eqb}
 use Rattle.search.specs.declared.Place.the-variants.{Nowhere}
 use Rattle.search.proofs.Search.{none-fails}
-use Rattle.body.specs.Entry.{word}
+use Rattle.entries.specs.Entry.{word}
 use Rattle.body.specs.Body.{measurements, goodChoice, badChoice, Told, accepted, readBodies}
 use Rattle.body.proofs.Sound.{no-refusal, Sound, all-sound, one-each}
 use Rattle.book.specs.Book.{headed, dimensionOf, quditsOf, offsetOf, lengthOf, endOf, partOf, entryFits, badContents, readBook, bodyOf}

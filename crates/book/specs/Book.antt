@@ -9,7 +9,7 @@ use Rattle.tableau.specs.Tableau.{sized}
 use Rattle.search.specs.declared.Place.{Place}
 use Rattle.search.specs.declared.Place.the-variants.{At, Nowhere}
 use Rattle.search.specs.Search.{unless}
-use Rattle.body.specs.Entry.{word}
+use Rattle.entries.specs.Entry.{word}
 use Rattle.body.specs.Body.{lengthFits, Told, refused, accepted, at, readBodies}
 
 -- Byte 0 is 81, then d, n, 3.

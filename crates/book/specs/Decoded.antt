@@ -11,10 +11,10 @@ use Rattle.operation.specs.declared.Operation.{Operation}
 use Rattle.operation.specs.declared.Operation.the-variants.{Sum}
 use Rattle.operation.specs.declared.WeylError.{WeylError}
 use Rattle.circuit.specs.Circuit.{measured, Accepted}
-use Rattle.body.specs.declared.Decoded.{Decoded}
-use Rattle.body.specs.declared.Decoded.the-variants.{Good, Bad}
-use Rattle.body.specs.Entry.{operationAt, errorAt}
-use Rattle.body.specs.Body.{accepted}
+use Rattle.entries.specs.declared.Decoded.{Decoded}
+use Rattle.entries.specs.declared.Decoded.the-variants.{Good, Bad}
+use Rattle.entries.specs.Entry.{operationAt, errorAt}
+use Rattle.body.specs.Body.{measurements, accepted}
 use Rattle.book.specs.Book.{readBook, dimensionOf, quditsOf, bodyOf}
 
 -- the operation of an entry; for a bad one, one that is never allowed
@@ -60,6 +60,7 @@ pub record Means (s : List ℕ) (d n operations errors choices : ℕ) : Type 0 w
   pub error-count : length (errorsOf (bodyOf s 2)) ≡ errors
   pub choice-count : length (bodyOf s 3) ≡ choices
   pub measurement-count : measured (operationsOf d n (bodyOf s 1)) operations ≡ choices
+  pub code-count : measurements (bodyOf s 1) operations ≡ choices
   pub lists : Accepted d n (operationsOf d n (bodyOf s 1)) (errorsOf (bodyOf s 2)) (bodyOf s 3)
 
 abbrev pub AcceptedMeans : Type 0

@@ -7,8 +7,8 @@ ghost use Rattle.book.specs.Book.{headed, endOf, partOf, entryFits, badC
 use body::Reading;
 use body::length_fits;
 use body::read_bodies;
-use body::wide;
-use body::word;
+use entries::wide;
+use entries::word;
 use search::Place;
 
 fn is_headed(book: &[u8]) -> bool

@@ -16,13 +16,13 @@ fn report(book: &[u8]) {
     let reading = book::read(book);
     match reading {
         Reading::Accepted(numbers) => {
-            write(b"d ", body::wide(numbers.d));
+            write(b"d ", entries::wide(numbers.d));
             write(b" n ", numbers.n);
             write(b" operations ", numbers.operations);
             write(b" errors ", numbers.errors);
         }
         Reading::Refused { number, place } => {
-            write(b"refused ", body::wide(number));
+            write(b"refused ", entries::wide(number));
             write(b" at ", place);
         }
     }

@@ -42,9 +42,8 @@ module _ {d n : ℕ} {ops : List Operation} {errors : List WeylError} {choices :
   without-errors =
       record {
         operations = ac .operations;
-        strikes = λ j l. absurd (omega arith);
+        strikes = record { each = λ j l. absurd (omega arith); in-order = λ i j l k. absurd (omega arith) };
         places = λ j l. absurd (omega arith);
-        in-order = λ i j l k. absurd (omega arith);
         one-each = ac .one-each;
         below = ac .below;
       }
@@ -56,7 +55,6 @@ module _ {d n : ℕ} {ops : List Operation} {errors : List WeylError} {choices :
         operations = ac .operations;
         strikes = ac .strikes;
         places = ac .places;
-        in-order = ac .in-order;
         one-each = same ∙ ac .one-each;
         below = λ j l. rw (raised-at d n ops errors F choices j (omega arith)) (mod-lt _ low);
       }

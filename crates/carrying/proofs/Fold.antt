@@ -15,7 +15,8 @@ use Rattle.validity.specs.Validity.{Valid}
 use Rattle.validity.proofs.Exactly.{valid-tableau}
 use Rattle.look.specs.declared.Looked.{Looked}
 use Rattle.look.specs.Look.{look}
-use Rattle.measurement.proofs.Kept.{gate-keeps-valid, collapse-keeps-valid}
+use Rattle.keeping.proofs.Keeping.{gate-keeps-valid}
+use Rattle.measurement.proofs.Free.{collapse-keeps-valid}
 use Rattle.run.specs.Run.{Run, done, andThen, onward}
 use Rattle.run.specs.Direct.{State, directLook, directKind, directStrike, directStep, directEnd, directRun}
 use Rattle.run.specs.Frame.{Framed, shiftRows, framedLook, framedKind, framedStrike, framedStep, framedLeave, framedEnd, frameRunFrom}
@@ -67,7 +68,7 @@ module _ (d n : ℕ) (dim : Dimension d) (ops : List Operation) (errors : List W
       (andThen B (framedStep d n ops errors choices k))
   unfolding directStep framedStep directStrike framedStrike struckFrame
   step-alike k l {F} up (alike t results f ok) =
-      rw (shifted-strike d n dim errors (ac .strikes) k F t f (valid-tableau d n t ok) (length errors) (le-refl (length errors)))
+      rw (shifted-strike d n dim errors (ac .strikes .each) k F t f (valid-tableau d n t ok) (length errors) (le-refl (length errors)))
       (kind-alike k l _ t results (strike-frame d n positive errors k F f (length errors)) ok up (kind (opAt ops k)) refl)
 
   -- from any operation, and any frame
@@ -87,7 +88,7 @@ module _ (d n : ℕ) (dim : Dimension d) (ops : List Operation) (errors : List W
       → Agree n m (andThen A (directEnd d n ops errors second)) (andThen B (framedEnd d n ops errors choices shifts frame))
   unfolding directEnd framedEnd framedLeave directStrike framedStrike
   end-alike m shifts frame {F} (alike t results f ok) =
-      rw (shifted-strike d n dim errors (ac .strikes) (length ops) F t f (valid-tableau d n t ok) (length errors) (le-refl (length errors)))
+      rw (shifted-strike d n dim errors (ac .strikes .each) (length ops) F t f (valid-tableau d n t ok) (length errors) (le-refl (length errors)))
       (record { struck = _; carried = _; struck-is = refl; carried-is = refl; tableau = λ i l. refl; results = λ i l. refl })
 
 -- The raised choices are so.

@@ -23,7 +23,7 @@ use Rattle.look.specs.declared.Looked.{Looked}
 use Rattle.look.specs.declared.Looked.the-variants.{Seen}
 use Rattle.look.specs.Look.{stabilizerPower, commutes, pivotOf, weighted, lookBy, look}
 use Rattle.look.proofs.Combination.{pivot-same}
-use Rattle.measurement.proofs.View.{reads-at, basis, valid-on}
+use Rattle.keeping.proofs.View.{reads-at, basis, valid-on}
 use Rattle.measurement.proofs.Combination.{reads-weighted}
 use Rattle.measurement.proofs.Looks.{Commuting}
 use Rattle.measurement.proofs.Certain.{z-phase, weighted-z, look-certain}

@@ -26,7 +26,7 @@ use Rattle.operation.specs.Error.{errorAllowed, errorRow, errorFrame}
 use Rattle.conjugation.specs.Generators.{operator}
 use Rattle.conjugation.proofs.Acts.{mapped, gained, acts, reads-gate}
 use Rattle.conjugation.proofs.Errors.{error-pairs, error-frame-pairs}
-use Rattle.measurement.proofs.View.{reads-z}
+use Rattle.keeping.proofs.View.{reads-z}
 use Rattle.run.specs.Frame.{shiftRow}
 use Rattle.run.proofs.Frames.{shift-row}
 

@@ -19,7 +19,8 @@ use Rattle.look.specs.declared.Looked.{Looked}
 use Rattle.look.specs.declared.Looked.the-variants.{Seen, NotZ}
 use Rattle.look.specs.Look.{look}
 use Rattle.measurement.proofs.Certain.{always-seen}
-use Rattle.measurement.proofs.Kept.{gate-keeps-valid, error-keeps-valid, collapse-keeps-valid}
+use Rattle.keeping.proofs.Keeping.{gate-keeps-valid, error-keeps-valid}
+use Rattle.measurement.proofs.Free.{collapse-keeps-valid}
 use Rattle.run.specs.Run.{Run, andThen, onward}
 use Rattle.run.specs.Direct.{State, strike, directLook, directKind, directStrike, directStep, directEnd, directRun}
 use Rattle.carrying.specs.Carrying.{Sound, DirectSound, DirectEnds}
@@ -41,7 +42,7 @@ module _ (d n : ℕ) (dim : Dimension d) (ops : List Operation) (errors : List W
       u = strike d n errors k t j
 
       by : (b : Bool) → Valid d n u → Valid d n (cond b (errorRows d n (errAt errors j) u) u)
-      by true v = error-keeps-valid d n dim (errAt errors j) (ac .strikes j (omega arith)) u v
+      by true v = error-keeps-valid d n dim (errAt errors j) (ac .strikes .each j (omega arith)) u v
       by false v = v
 
   kind-sound : (k : ℕ) → k < length ops → (st : State) → Valid d n (st .rows) → (x : Kind) → kind (opAt ops k) ≡ x

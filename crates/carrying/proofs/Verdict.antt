@@ -10,7 +10,7 @@ use Rattle.stabilizer.proofs.Basis.{nondegenerate}
 use Rattle.weyl.proofs.Reading.{bytes, pairing-is}
 use Rattle.search.proofs.Search.{all-at, all-from}
 use Rattle.tableau.specs.Tableau.{row}
-use Rattle.measurement.proofs.View.{rows, invertible, basis}
+use Rattle.keeping.proofs.View.{rows, invertible, basis}
 use Rattle.run.specs.Frame.{noShift, verdictOf}
 use Rattle.carrying.specs.Carrying.{CleanExactly}
 use Rattle.carrying.proofs.Shift.{pairing-none}

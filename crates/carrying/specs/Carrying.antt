@@ -65,7 +65,7 @@ CarriedFrom = (d n : ℕ) → Dimension d → (ops : List Operation) (errors : L
     (directRun d n ops errors (raised d n ops errors F choices) (record { rows = shiftRows d n F t; results = results }))
     (frameRunFrom d n ops errors choices F (record { rows = t; results = results }) shifts frame)
 
--- The frame run is the clean run, without errors, with the carried frame G added: to the rows, and to each result its shift.
+-- The frame run is the clean run, without errors, with the final frame added: to the rows, and to each result its shift.
 pub record CleanPlus (d n : ℕ) (ops : List Operation) (errors : List WeylError) (F frame : List ℕ) (A : Run State) (B : Run Ended) : Type 0 where
   pub clean : State
   pub framed : Ended

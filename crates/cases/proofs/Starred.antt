@@ -5,18 +5,19 @@ use mathlib.Core.List.{List, [], _∷_}
 use Prim.Native.Nat.{ℕ}
 use Rattle.modular.specs.Dimension.{inverse, inverseBelow}
 use Rattle.row.specs.Row.{tab, rowOf, dot, product, power}
-use Rattle.operation.specs.declared.Operation.the-variants.{Fourier, PhaseGate, Cz, Multiplier}
-use Rattle.operation.specs.Gate.{gatePowers, gatePhase, gateRow, gateRows}
+use Rattle.operation.specs.declared.Operation.the-variants.{Fourier, PhaseGate, Cz, Multiplier, Measure}
+use Rattle.operation.specs.Gate.{gatePowers, gatePhase, gateRow}
 use Rattle.operation.specs.Error.{errorRow}
 use Rattle.row.specs.Generators.{zWith}
 use Rattle.weyl.specs.Scalar.{scalar}
 use Rattle.search.specs.Search.{all, firstNot}
 use Rattle.tableau.specs.Tableau.{part, put, eachRow}
 use Rattle.layer.specs.Layer.{zeroTableau}
-use Rattle.look.specs.declared.Look.the-variants.{Free, Certain}
-use Rattle.look.specs.declared.Looked.the-variants.{Seen}
+use Rattle.circuit.specs.Circuit.{measured}
 use Rattle.look.specs.Look.{pivotOf, combination, weighted, isZ, outcomeOf, look}
 use Rattle.collapse.specs.Collapse.{collapseRow, collapse}
+use Rattle.run.specs.Run.{done, onward, noted}
+use Rattle.run.specs.Direct.{State, strike, directLook, directKind, directStrike, directStep, directEnd, directRun}
 
 -- ★1 Fourier: (1,1,0) gives (2,1,2).
 fourier : gateRow 3 1 (Fourier 0) (1 ∷ 1 ∷ 0 ∷ []) ≡ 2 ∷ 1 ∷ 2 ∷ []
@@ -65,18 +66,14 @@ error = refl
 abbrev zeros : List ℕ
 zeros = zeroTableau 1 (9 ∷ 9 ∷ 9 ∷ 9 ∷ 9 ∷ 9 ∷ [])
 
-certain : look 3 1 zeros 0 ≡ Seen (Certain 0)
-unfolding look pivotOf firstNot weighted combination scalar outcomeOf isZ all zeroTableau eachRow part put product power rowOf tab dot
+abbrev start : State
+start = record { rows = zeros; results = 9 ∷ 9 ∷ [] }
+
+certain : directRun 3 1 (Measure 0 ∷ []) [] (2 ∷ []) start ≡ done (record { rows = zeros; results = 0 ∷ 0 ∷ [] })
+unfolding directRun onward directStep directStrike directEnd directKind directLook strike measured noted look pivotOf firstNot weighted combination scalar outcomeOf isZ all zeroTableau eachRow part put product power rowOf tab dot
 certain = refl
 
 -- ★9 Fourier, then measure with choice 2: free 2, rows (1,0,0) and (0,1,1).
-abbrev turned : List ℕ
-turned = gateRows 3 1 (Fourier 0) zeros
-
-free : look 3 1 turned 0 ≡ Seen (Free 0)
-unfolding look pivotOf firstNot zeroTableau eachRow part put rowOf tab gateRow gatePowers gatePhase
+free : directRun 3 1 (Fourier 0 ∷ Measure 0 ∷ []) [] (2 ∷ []) start ≡ done (record { rows = 1 ∷ 0 ∷ 0 ∷ 0 ∷ 1 ∷ 1 ∷ []; results = 2 ∷ 1 ∷ [] })
+unfolding directRun onward directStep directStrike directEnd directKind directLook strike measured noted look pivotOf firstNot collapse collapseRow zWith inverse inverseBelow zeroTableau eachRow part put product power rowOf tab dot gateRow gatePowers gatePhase
 free = refl
-
-rows : collapse 3 1 0 0 2 turned ≡ 1 ∷ 0 ∷ 0 ∷ 0 ∷ 1 ∷ 1 ∷ []
-unfolding collapse collapseRow zWith inverse inverseBelow zeroTableau eachRow part put product power rowOf tab dot gateRow gatePowers gatePhase
-rows = refl

@@ -1,6 +1,6 @@
 // The free measurement of a qudit, on every row of a tableau with even phases.
 ghost use mathlib.Core.Path.{_≡_};
-ghost use mathlib.Core.Bool.{true, cond};
+ghost use mathlib.Core.Bool.{true};
 ghost use Prim.Native.Nat.{_+_, _*_, _<_, _≤_};
 ghost use lib.ListN.{length, take, replicate};
 ghost use Rattle.modular.specs.Dimension.{listed};
@@ -18,12 +18,6 @@ fn index(x: u8) -> usize
     ensures { λ r. ⌜ r ≡ x ⌝ }
 {
     x as usize
-}
-
-fn one_if(test: bool) -> usize
-    ensures { λ r. ⌜ (r ≡ cond test 1 0) × (r ≤ 1) ⌝ }
-{
-    if test { 1 } else { 0 }
 }
 
 // Row h + 1 of p becomes row h times the pivot.
@@ -60,7 +54,7 @@ fn multiply(v: &mut [u8], p: &[u8], h: usize, d: u8, n: usize)
     let w = 2 * n + 1;
     let s = h * w;
     let e = s + w;
-    row::product(v, &p[s..e], d, n);
+    row::even_product(v, &p[s..e], d, n);
 }
 
 // The rows that change, in order: k, n + k and those whose exponent is not 0. Found without a branch, which for small d would often be foreseen wrongly.
@@ -75,7 +69,7 @@ fn changing(list: &mut [u8], t: &[u8], exps: &[u8], k: usize, q: usize, n: usize
     while i < rows {
         list[count] = i as u8;
         let h = exps[index(t[i * w + q])];
-        count += one_if((i == k) | (i == n + k) | (h != 0));
+        count += search::one_if((i == k) | (i == n + k) | (h != 0));
         i += 1;
     }
     count

@@ -135,13 +135,6 @@ pub unit-other : (k s : ℕ) → ¬ (s ≡ k) → unit k s ≡ 0
 unfolding unit
 unit-other k s e = pick-no (ℕ-discrete s k) 1 0 e
 
-pub unit-small : (k s : ℕ) → unit k s ≤ 1
-unit-small k s = go (ℕ-discrete s k)
-  where
-    go : Dec (s ≡ k) → unit k s ≤ 1
-    go (yes e) = omega (arith, unit-same k s e)
-    go (no e) = omega (arith, unit-other k s e)
-
 pub sum-unit-out : (n k : ℕ) (f : ℕ → ℕ) → n ≤ k → sum n (λ i. unit k i * f i) ≡ 0
 sum-unit-out n k f l =
     sum-congr n (λ i. unit k i * f i) (λ i. 0) (λ i li. ap (λ (z : ℕ). z * f i) (unit-other k i (omega arith)) ∙ omega arith)

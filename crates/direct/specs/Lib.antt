@@ -1,2 +1,1 @@
 pub mod DirectBook
-pub mod Progress

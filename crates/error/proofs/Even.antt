@@ -23,7 +23,7 @@ use Rattle.validity.specs.Validity.{Valid}
 use Rattle.validity.proofs.Exactly.{valid-tableau}
 use Rattle.even.specs.Even.{plain}
 use Rattle.even.proofs.Plain.{turned-power, plain-by}
-use Rattle.measurement.proofs.Kept.{reads-error}
+use Rattle.keeping.proofs.Keeping.{reads-error}
 
 module _ (d n : ℕ) (dim : Dimension d) (e : WeylError) (h : errorAllowed d n e ≡ true) where
   low : 0 < d

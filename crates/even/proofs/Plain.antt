@@ -11,7 +11,7 @@ use Rattle.modular.specs.Modular.{neg}
 use Rattle.row.specs.Row.{Row, dot, pairing}
 use Rattle.row.specs.Even.{turned, plainRow}
 use Rattle.tableau.specs.Tableau.{Tableau, row, onRows, every}
-use Rattle.tableau.proofs.Parts.{Keeps, same, on-length, on-at, on-rest, on-on, tableau-row, on-tableau}
+use Rattle.tableau.proofs.Parts.{Keeps, same, on-at, on-rest, on-on, tableau-row, on-tableau}
 use Rattle.weyl.proofs.Reading.{positive, reads-self, reads-row}
 use Rattle.weyl.proofs.Even.{reads-turned, plain-even, even-plain}
 use Rattle.validity.specs.Validity.{Valid}
@@ -85,15 +85,7 @@ module _ (d n x : ℕ) (t : List ℕ) where
 
 -- The tableau that t stands for.
 module _ (d n : ℕ) (t : List ℕ) where
-  pub plain-tableau : Tableau d n t → Tableau d n (plain d n t)
-  unfolding plain
-  plain-tableau h = on-turned-tableau d n (d / 2 + 1) t h
-
   module _ (room : 2 * n * (2 * n + 1) ≤ length t) where
-    pub plain-length : length (plain d n t) ≡ length t
-    unfolding plain
-    plain-length = on-length n _ (turned-keeps d n (d / 2 + 1)) t room
-
     pub plain-row : (i : ℕ) → i < 2 * n → row n (plain d n t) i ≡ plainRow d n (row n t i)
     unfolding plain
     plain-row i l = on-at n _ (turned-keeps d n (d / 2 + 1)) t room i l

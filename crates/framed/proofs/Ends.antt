@@ -10,7 +10,7 @@ use Rattle.operation.specs.declared.WeylError.{WeylError}
 use Rattle.run.specs.Run.{Run, refused, done, andThen, onward}
 use Rattle.run.specs.Frame.{Framed, noFrame, shiftAt, shiftRows, verdictOf, framedStep, framedLeave, framedEnd, frameRunFrom, frameRun}
 use Rattle.framed.specs.FrameBook.{Buffers, FrameLeft, frameEnded}
-use Rattle.framed.specs.Progress.{framedLast, framedAll}
+use Rattle.framed.specs.Carried.{framedLast, framedAll}
 
 module _ (d n : ℕ) (ops : List Operation) (errors : List WeylError) (choices : List ℕ) (measurements : ℕ) (lent : Buffers) where
   abbrev first : List ℕ → Framed

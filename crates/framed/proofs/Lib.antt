@@ -1,5 +1,4 @@
 -- What the proofs of several functions use.
-pub mod Looks
-pub mod Steps
+pub mod Carried
 pub mod Ends
 pub mod Books

@@ -1,2 +1,2 @@
 pub mod FrameBook
-pub mod Progress
+pub mod Carried

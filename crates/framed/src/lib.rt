@@ -1,26 +1,19 @@
 // The frame run.
 ghost use mathlib.Core.Path.{_≡_};
-ghost use mathlib.Core.Bool.{true};
-ghost use Prim.Native.Nat.{ℕ, _+_, _*_, _/_, _<_, _≤_};
-ghost use lib.ListN.{length, getD};
-ghost use Rattle.modular.specs.Dimension.{listed};
+ghost use Prim.Native.Nat.{_*_, _≤_};
+ghost use lib.ListN.{length};
 ghost use Rattle.row.specs.Row.{Powers};
 ghost use Rattle.tableau.specs.Tableau.{Tableau};
 ghost use Rattle.validity.specs.Validity.{Valid};
 ghost use Rattle.even.specs.Even.{plain};
-ghost use Rattle.operation.specs.Operation.{allowed};
-ghost use Rattle.operation.specs.Error.{errorAllowed};
-ghost use Rattle.circuit.specs.Circuit.{errAt, tally, measured};
-ghost use Rattle.circuit.specs.Reached.{Reached, Stands};
 ghost use Rattle.book.specs.Decoded.{operationsOf, errorsOf, Bodies};
-ghost use Rattle.run.specs.Frame.{noFrame, strikeFrame, framedOperation, framedStep};
+ghost use Rattle.run.specs.Frame.{noFrame};
+ghost use Rattle.frame_step.specs.Progress.{framedOf};
 ghost use Rattle.framed.specs.FrameBook.{frameRoomy, frameBodies, frameBook};
-ghost use Rattle.framed.specs.Progress.{framedAfter, framedOf, framedAll, Counted};
+ghost use Rattle.framed.specs.Carried.{framedAll, Counted};
 use body::Reading;
-use body::Taken;
 use circuit::Advanced;
 use circuit::Progress;
-use operation::Operation;
 
 // What the frame run returns: 0, the number of measurements and the verdict, 0 clean or 1 shifted; or a refusal's number, its
 // place and 0.
@@ -29,86 +22,6 @@ pub struct FrameAnswer {
     pub number: usize,
     pub place: usize,
     pub verdict: usize,
-}
-
-// Takes the errors of place k, which begin at entry j, into the frame. The first entry of a later place is returned.
-fn strike(frame: &mut [u8], errors: &[u8], j: usize, k: usize, d: u8, n: usize) -> usize
-    requires { ⌜ (d ≤ 31) × Powers d n (now frame) × Reached (errorsOf (now errors)) j k × ((i : ℕ) → i < length (errorsOf (now errors)) → errorAllowed d n (errAt (errorsOf (now errors)) i) ≡ true) × ((i h : ℕ) → i ≤ h → h < length (errorsOf (now errors)) → errAt (errorsOf (now errors)) i .place ≤ errAt (errorsOf (now errors)) h .place) ⌝ }
-    ensures { λ r. ⌜ (now (frame .exit) ≡ strikeFrame d n (errorsOf (now (errors .entry))) k (now (frame .entry)) (length (errorsOf (now (errors .entry))))) × Powers d n (now (frame .exit)) × (length (now (frame .exit)) ≡ length (now (frame .entry))) × Reached (errorsOf (now (errors .entry))) r (k + 1) ⌝ }
-{
-    let count = errors.len() / 5;
-    let mut i = j;
-    while i < count {
-        let e = body::error_at(errors, i);
-        if e.place != k {
-            return i;
-        }
-        frames::error_frame(frame, e, d, n);
-        i += 1;
-    }
-    i
-}
-
-// Does an operation: a gate on the rows and on the frame, a measurement on the rows alone. False where the product of
-// measurement j isn't Z: nothing is changed then.
-fn perform(
-    t: &mut [u8],
-    results: &mut [u8],
-    frame: &mut [u8],
-    choices: &[u8],
-    operation: Operation,
-    j: usize,
-    d: u8,
-    n: usize,
-) -> bool
-    requires { ⌜ (listed d ≡ true) × (n ≤ 64) × (allowed d n operation ≡ true) × (j + tally operation ≤ length (now choices)) × (2 * length (now choices) ≤ length (now results)) × ((i : ℕ) → i < length (now choices) → getD (now choices) i 0 < d) × Powers d n (now frame) × Valid d n (now t) ⌝ }
-    ensures { λ r. ⌜ (framedAfter r j (record { rows = plain d n (now (t .exit)); results = now (results .exit); frame = now (frame .exit) }) ≡ framedOperation d n (now (choices .entry)) j (record { rows = plain d n (now (t .entry)); results = now (results .entry); frame = now (frame .entry) }) operation) × Valid d n (now (t .exit)) × Powers d n (now (frame .exit)) × (length (now (frame .exit)) ≡ length (now (frame .entry))) × (length (now (results .exit)) ≡ length (now (results .entry))) ⌝ }
-{
-    if let Operation::Measure { q } = operation {
-        return measure::measure(t, results, q, choices[j], frame[q], j, d, n);
-    }
-    gate::gate_rows(t, operation, d, n);
-    frames::gate_frame(frame, operation, d, n);
-    true
-}
-
-// Step k: the errors of place k, then operation k.
-fn advance(
-    t: &mut [u8],
-    results: &mut [u8],
-    frame: &mut [u8],
-    ops: &[u8],
-    errors: &[u8],
-    choices: &[u8],
-    k: usize,
-    at: Progress,
-    d: u8,
-    n: usize,
-) -> Advanced
-    requires { ⌜ (k < length (now ops) / 4) × Bodies d n (now ops) (now errors) (now choices) × Reached (errorsOf (now errors)) (at .entry) k × (at .measurements ≡ measured (operationsOf d n (now ops)) k) × (2 * length (now choices) ≤ length (now results)) × Powers d n (now frame) × Valid d n (now t) ⌝ }
-    ensures { λ r. ⌜ (framedOf r (record { rows = plain d n (now (t .exit)); results = now (results .exit); frame = now (frame .exit) }) ≡ framedStep d n (operationsOf d n (now (ops .entry))) (errorsOf (now (errors .entry))) (now (choices .entry)) k (record { rows = plain d n (now (t .entry)); results = now (results .entry); frame = now (frame .entry) })) × Stands (operationsOf d n (now (ops .entry))) (errorsOf (now (errors .entry))) (k + 1) r × Valid d n (now (t .exit)) × Powers d n (now (frame .exit)) × (length (now (frame .exit)) ≡ length (now (frame .entry))) × (length (now (results .exit)) ≡ length (now (results .entry))) ⌝ }
-{
-    let from = at.entry;
-    let entry = strike(frame, errors, from, k, d, n);
-    let Taken::Next(step) = body::step_at(ops, k, d, n) else {
-        return Advanced::Refused {
-            number: 5,
-            place: k,
-        };
-    };
-    let operation = step.operation;
-    let j = at.measurements;
-    if !perform(t, results, frame, choices, operation, j, d, n) {
-        return Advanced::Refused {
-            number: 10,
-            place: j,
-        };
-    }
-    let measurements = j + circuit::tally(operation);
-    Advanced::Next(Progress {
-        entry,
-        measurements,
-    })
 }
 
 // All operations on rows with even phases, then the errors after them: the frame is the final one. The number of measurements,
@@ -133,7 +46,7 @@ fn carry_even(
     };
     let mut k = 0;
     while k < count {
-        let advanced = advance(t, results, frame, ops, errors, choices, k, at, d, n);
+        let advanced = frame_step::advance(t, results, frame, ops, errors, choices, k, at, d, n);
         match advanced {
             Advanced::Next(next) => {
                 at = next;
@@ -145,7 +58,7 @@ fn carry_even(
         k += 1;
     }
     let from = at.entry;
-    let entry = strike(frame, errors, from, k, d, n);
+    let entry = frame_step::strike(frame, errors, from, k, d, n);
     Advanced::Next(Progress {
         entry,
         measurements: at.measurements,
@@ -270,7 +183,7 @@ pub fn frame_run(
         Reading::Accepted(numbers) => numbers,
         Reading::Refused { number, place } => {
             return FrameAnswer {
-                number: body::wide(number),
+                number: entries::wide(number),
                 place,
                 verdict: 0,
             };

@@ -28,7 +28,7 @@ use Rattle.validity.proofs.Exactly.{valid-tableau}
 use Rattle.even.specs.Even.{plain}
 use Rattle.even.proofs.Plain.{plain-by, valid-as-plain}
 use Rattle.conjugation.proofs.Acts.{mapped, gained, acts, reads-gate}
-use Rattle.measurement.proofs.Kept.{gate-keeps-valid}
+use Rattle.keeping.proofs.Keeping.{gate-keeps-valid}
 use Rattle.gate.specs.Even.{evenPhase, evenGateRow, EvenGate}
 
 -- k is d/2 rounded down, so that k is −½ and k + 1 is ½.

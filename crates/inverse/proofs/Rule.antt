@@ -1,10 +1,10 @@
--- The rule of the table of inverses: the rows that it must have, and what that says of each entry.
+-- The rows that the table of inverses must have; and the rule of the inverses.
 -- Assumes nothing.
-use mathlib.Core.Path.{_≡_, sym, ap, _∙_, subst}
+use mathlib.Core.Path.{_≡_, sym, ap, _∙_}
 use mathlib.Core.Bool.{true, or-false}
 use mathlib.Core.List.{List, [], _∷_}
 use mathlib.Core.Logic.{_≢_}
-use Prim.Native.Nat.{ℕ, zero, suc, _+_, _*_, _/_, _%_, _<_, _≤_}
+use Prim.Native.Nat.{ℕ, zero, suc, _+_, _*_, _/_, _%_, _<_}
 use native.Mathlib.Nat.{not-suc-le-zero, div-add-mod'}
 use native.Mathlib.Omega.{arith}
 use lib.Dec.{eqb}
@@ -12,6 +12,7 @@ use lib.ListN.{length, getD}
 use borrow.Author.Tests.{eqb-true, ne-eqb}
 use Rattle.modular.specs.Dimension.{dimensions, listed, inverse}
 use Rattle.modular.proofs.Listed.{dimension, inverse-zero, inverse-past}
+use Rattle.inverse.specs.Rule.{InverseRight}
 
 -- the inverses of s, s + 1, .., n in all
 abbrev run : ℕ → ℕ → ℕ → List ℕ
@@ -40,7 +41,7 @@ rows-at (d ∷ ds) (suc p) h j l m k =
     rw e (rows-at ds p h j (omega arith) m k)
 
 -- entry u in the two rows of the dimension at place p
-abbrev pub entry : ℕ → ℕ → ℕ
+abbrev entry : ℕ → ℕ → ℕ
 entry p u = getD (getD (rows dimensions) (p * 2 + u / 16) []) (u % 16) 0
 
 pub found : (d p u : ℕ) → p < 10 → getD dimensions p 0 ≡ d → u < 32 → entry p u ≡ inverse d u
@@ -49,20 +50,8 @@ found d p u hp e hu =
     ∙ ap (λ (x : ℕ). inverse x (u / 16 * 16 + u % 16)) e
     ∙ ap (inverse d) (div-add-mod' u 16)
 
--- Times u it leaves 1; every other entry is 0.
-pub record Right (d u x : ℕ) : Type 0 where
-  pub unit : 0 < u → u < d → u * x % d ≡ 1
-  pub zeroth : u ≡ 0 → x ≡ 0
-  pub past : d ≤ u → x ≡ 0
-
-pub rule : (d p u : ℕ) → listed d ≡ true → p < 10 → getD dimensions p 0 ≡ d → u < 32 → Right d u (entry p u)
-rule d p u l hp e hu =
-    subst (Right d u) (sym (found d p u hp e hu))
-    record {
-      unit = dimension d l .rule u;
-      zeroth = λ z. ap (inverse d) z ∙ inverse-zero d;
-      past = inverse-past d u;
-    }
+pub inverse-right : InverseRight
+inverse-right d l u = record { unit = dimension d l .rule u; zeroth = λ z. ap (inverse d) z ∙ inverse-zero d; past = inverse-past d u }
 
 -- the dimension that is left
 pub last : (d : ℕ) → listed d ≡ true → d ≢ 3 → d ≢ 5 → d ≢ 7 → d ≢ 11 → d ≢ 13 → d ≢ 17 → d ≢ 19 → d ≢ 23 → d ≢ 29 → 31 ≡ d

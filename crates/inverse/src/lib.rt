@@ -53,7 +53,7 @@ pub fn inverse(d: u8, u: u8) -> u8
     requires { ⌜ listed d ≡ true ⌝ }
     ensures { λ r. ⌜ r ≡ inverse d u ⌝ }
 {
-    if u >= d {
+    if u >= 32 {
         return 0;
     }
     let i = place(d) * 2 + (u / 16) as usize;

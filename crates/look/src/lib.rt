@@ -11,6 +11,7 @@ ghost use Rattle.even.specs.Even.{plain};
 ghost use Rattle.look.specs.Look.{destabilizerPower, pivotOf, isZ, outcomeOf, look};
 ghost use Rattle.look.specs.Even.{evenCombination};
 ghost use Rattle.look.specs.Sums.{weighed, Sums, gainAt, restAt};
+use row::wide;
 use search::Place;
 
 // Each measurement is either free, with its pivot stabilizer, or certain, with its outcome.
@@ -40,12 +41,6 @@ fn pivot_of(t: &[u8], q: usize, n: usize) -> Place
         k += 1;
     }
     Place::Nowhere
-}
-
-fn wide(x: u8) -> u16
-    ensures { λ r. ⌜ r ≡ x ⌝ }
-{
-    x as u16
 }
 
 // Every sum gains h times its byte of v.

@@ -22,7 +22,7 @@ use Rattle.look.specs.declared.Looked.{Looked}
 use Rattle.look.specs.declared.Looked.the-variants.{Seen, NotZ}
 use Rattle.look.specs.Look.{commutes, pivotOf, weighted, isZ, outcomeOf, lookBy, look}
 use Rattle.collapse.specs.Collapse.{collapse}
-use Rattle.measurement.proofs.Kept.{collapse-keeps-valid}
+use Rattle.measurement.proofs.Free.{collapse-keeps-valid}
 
 abbrev pub Fits : ℕ → ℕ → Looked → Type 0
 Fits d n (Seen (Free k)) = k < n

@@ -23,7 +23,7 @@ use Rattle.look.specs.declared.Looked.the-variants.{Seen, NotZ}
 use Rattle.look.specs.Look.{destabilizerPower, weighted, zByte, isZ, outcomeOf, look}
 use Rattle.measurement.specs.Stabilizers.{Stabilizes}
 use Rattle.measurement.specs.Measurement.{AlwaysSeen, CertainExactly, OneMember}
-use Rattle.measurement.proofs.View.{at-odd, invertible, row-of, basis, reads-z}
+use Rattle.keeping.proofs.View.{at-odd, invertible, row-of, basis, reads-z}
 use Rattle.measurement.proofs.Combination.{signs, reads-weighted, stabilizes-row, stabilizes-member}
 use Rattle.measurement.proofs.Looks.{Commuting, Looks, free, certain, looks}
 

@@ -1,20 +1,24 @@
 -- Products of powers of stabilizers, and the stabilizer set of a valid tableau, as `stabilizer` has them.
 -- Assumes nothing.
+use mathlib.Core.Path.{_≡_}
 use mathlib.Core.List.{List}
 use Prim.Native.Nat.{ℕ, zero, suc, _+_, _≤_, _<_}
 use native.Mathlib.Nat.{le-refl}
 use native.Mathlib.Omega.{arith}
-use Rattle.congruence.proofs.Congruence.{cong-sym, cong-trans}
+use Rattle.congruence.proofs.Congruence.{Cong, cong-refl, cong-sym, cong-trans, small-cong}
 use Rattle.congruence.proofs.Sum.{sum}
+use Rattle.symplectic.proofs.Pairing.{pair-cong}
+use Rattle.symplectic.proofs.Map.{Same}
 use Rattle.stabilizer.proofs.Product.{vec, phs}
-use Rattle.stabilizer.proofs.Member.{Member, member-small}
+use Rattle.stabilizer.proofs.Member.{Member, member-small, exponent}
 use Rattle.row.specs.Row.{Row}
 use Rattle.weyl.proofs.Reading.{Reads, reads-row, unique, reads-cong, reads-of, reads-scalar, reads-product, reads-power}
 use Rattle.tableau.specs.Tableau.{row}
 use Rattle.validity.specs.Validity.{Valid}
 use Rattle.look.specs.Look.{destabilizerPower, combination, weighted}
 use Rattle.measurement.specs.Stabilizers.{Stabilizes}
-use Rattle.measurement.proofs.View.{rows, phases, reads-at}
+use Rattle.measurement.specs.Measurement.{AllDifferent}
+use Rattle.keeping.proofs.View.{rows, phases, at-odd, reads-at, basis}
 
 -- The products of powers of stabilizers that read as g with phases r.
 module _ {d n : ℕ} (p : 0 < d) (t : List ℕ) (g : ℕ → ℕ → ℕ) (r : ℕ → ℕ) (each : (i : ℕ) → i < n → Reads d n (row n t (n + i)) (g i) (r i)) (h : ℕ → ℕ) where
@@ -65,3 +69,26 @@ member-stabilizes f {n} {t} ok {u = u} {r = r} a m =
       below = λ i l. small i;
       spelled = unique (reads-cong powers phase a) (reads-stabs ok (omega arith) h);
     }
+
+-- A product settles its exponents: they are its pairings with the destabilizers.
+module _ {e n : ℕ} {t : List ℕ} (ok : Valid (suc e) n t) (h h' : ℕ → ℕ) (same : combination (suc e) n t h n ≡ combination (suc e) n t h' n) where
+  same-powers : Same (suc e) n (vec (stabs n t) h n) (vec (stabs n t) h' n)
+  same-powers s l =
+      cong-trans (cong-sym (reads-stabs ok (omega arith) h .powers s l)) (reads-of same (reads-stabs ok (omega arith) h') .powers s l)
+
+  settled : (i : ℕ) → i < n → Cong (suc e) (h i) (h' i)
+  settled i l =
+      cong-trans (cong-sym (exponent e n (rows n t) (basis ok) h i l))
+      (cong-trans
+      (pair-cong e n (vec (stabs n t) h n) (vec (stabs n t) h' n) (rows n t i) (rows n t i) same-powers (λ s k. cong-refl (suc e) (rows n t i s)))
+      (exponent e n (rows n t) (basis ok) h' i l))
+
+pub all-different : AllDifferent
+all-different d n dim t ok h h' low low' same i l =
+    at-odd (λ z. Valid z n t → h i < z → h' i < z → combination z n t h n ≡ combination z n t h' n → h i ≡ h' i)
+    (λ f k v a b c. small-cong (settled v h h' c i l) a b)
+    dim
+    ok
+    (low i l)
+    (low' i l)
+    same

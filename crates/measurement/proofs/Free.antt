@@ -1,4 +1,4 @@
--- The rows after a free measurement of q, with stabilizer k for the pivot.
+-- The rows after a free measurement of q, with stabilizer k for the pivot, are valid.
 -- Assumes nothing.
 use mathlib.Core.Path.{_≡_, sym, _∙_}
 use mathlib.Core.List.{List}
@@ -14,7 +14,7 @@ use Rattle.stabilizer.proofs.Kept.{Moved, kept}
 use Rattle.stabilizer.proofs.Collapse.{Measured, measured}
 use Rattle.modular.specs.Modular.{neg}
 use Rattle.modular.specs.Dimension.{Dimension, inverse}
-use Rattle.row.specs.Row.{xOf, power}
+use Rattle.row.specs.Row.{xOf}
 use Rattle.weyl.proofs.Reading.{Reads, reads-self, reads-of, reads-product, reads-power, neg-small, neg-is}
 use Rattle.tableau.specs.Tableau.{row}
 use Rattle.tableau.proofs.Parts.{on-at}
@@ -24,7 +24,8 @@ use Rattle.look.specs.declared.Looked.the-variants.{Seen}
 use Rattle.look.specs.Look.{look}
 use Rattle.collapse.specs.Collapse.{collapseRow, collapse}
 use Rattle.collapse.proofs.Collapsed.{collapsed, collapsed-keeps}
-use Rattle.measurement.proofs.View.{rows, phases, reads-at, basis, valid-on, reads-z}
+use Rattle.keeping.proofs.View.{rows, phases, at-odd, reads-at, basis, valid-on, reads-z}
+use Rattle.measurement.specs.Measurement.{CollapseKeepsValid}
 use Rattle.measurement.proofs.Combination.{stabs, signs}
 use Rattle.measurement.proofs.Looks.{Pivot, look-free}
 
@@ -126,3 +127,7 @@ module _ {e n : ℕ} {t : List ℕ} {q k : ℕ} (free : FreeAt (suc e) n t q k) 
         t
         (free .valid .room)
         (λ i l. reads-of (sym (after-at i l)) (reads-self (rw (after-at i l) (collapsed d n q k m by low i (row n t i)))))
+
+pub collapse-keeps-valid : CollapseKeepsValid
+collapse-keeps-valid d n dim t ok q k m lq lm x =
+    at-odd (λ z. FreeAt z n t q k → Valid z n (collapse z n q k m t)) (λ f i free. valid-after free m) dim (free-at dim ok lq x)

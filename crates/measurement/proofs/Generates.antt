@@ -16,7 +16,7 @@ use Rattle.weyl.proofs.Reading.{bytes, Reads, means, reads-self, reads-row, rea
 use Rattle.collapse.specs.Collapse.{collapse}
 use Rattle.measurement.specs.Stabilizers.{Stabilizes, Generated, holds, times, Remaining}
 use Rattle.measurement.specs.Measurement.{CollapseGenerates}
-use Rattle.measurement.proofs.View.{at-odd, rows, basis, reads-z}
+use Rattle.keeping.proofs.View.{at-odd, rows, basis, reads-z}
 use Rattle.measurement.proofs.Combination.{stabs, signs, stabilizes-row, stabilizes-member, member-stabilizes}
 use Rattle.measurement.proofs.Free.{FreeAt, free-at, number, inverted, inverts, measured-after, valid-after}
 

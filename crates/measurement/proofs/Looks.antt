@@ -4,7 +4,6 @@ use mathlib.Core.Path.{_≡_, refl, sym, ap, _∙_}
 use mathlib.Core.Bool.{Bool, true, false, cond}
 use mathlib.Core.List.{List}
 use Prim.Native.Nat.{ℕ, _<_}
-use native.Mathlib.Decide.{decLt}
 use native.Mathlib.Omega.{arith}
 use borrow.Author.Tests.{eqb-true, eqb-false}
 use Rattle.modular.specs.Modular.{neg}
@@ -55,16 +54,3 @@ look-free d n t q k e = go (looks d n t q)
     go : Looks d n t q → Pivot n t q k
     go (free j p f) = let same : k ≡ j = cc in rw same p
     go (certain h f) = absurd (outcome-not d n q k (weighted d n t q) (sym f ∙ e))
-
--- There is one pivot, and the look gives it.
-pub pivot-look : (d n : ℕ) (t : List ℕ) (q k : ℕ) → Pivot n t q k → look d n t q ≡ Seen (Free k)
-pivot-look d n t q k p = go (looks d n t q)
-  where
-    same : (j : ℕ) → Pivot n t q j → Dec (j < k) → Dec (k < j) → j ≡ k
-    same j r (yes l) x = absurd (r .power (p .lowest j l))
-    same j r (no l) (yes x) = absurd (p .power (r .lowest k x))
-    same j r (no l) (no x) = omega arith
-
-    go : Looks d n t q → look d n t q ≡ Seen (Free k)
-    go (free j r e) = e ∙ ap (λ (i : ℕ). Seen (Free i)) (same j r (decLt j k) (decLt k j))
-    go (certain h e) = absurd (p .power (h k (p .number)))

@@ -1,38 +1,26 @@
 -- Demand 2 for measurements, and validity. The statements are proved in proofs/.
 use mathlib.Core.Path.{_≡_}
-use mathlib.Core.Bool.{true}
 use mathlib.Core.Logic.{_↔_}
 use mathlib.Core.List.{List}
-use Prim.Native.Nat.{ℕ, _+_, _*_, _<_, _≤_}
-use lib.ListN.{length, getD}
+use Prim.Native.Nat.{ℕ, _*_, _<_}
+use lib.ListN.{getD}
 use Rattle.modular.specs.Modular.{neg}
 use Rattle.modular.specs.Dimension.{Dimension}
 use Rattle.row.specs.Generators.{zWith}
-use Rattle.operation.specs.declared.Operation.{Operation}
-use Rattle.operation.specs.declared.WeylError.{WeylError}
-use Rattle.operation.specs.Operation.{allowed}
-use Rattle.operation.specs.Gate.{gateRows}
-use Rattle.operation.specs.Error.{errorAllowed, errorRows}
-use Rattle.layer.specs.Layer.{zeroTableau}
 use Rattle.validity.specs.Validity.{Valid}
 use Rattle.look.specs.declared.Look.the-variants.{Free, Certain}
 use Rattle.look.specs.declared.Looked.the-variants.{Seen, NotZ}
-use Rattle.look.specs.Look.{look}
+use Rattle.look.specs.Look.{combination, look}
 use Rattle.collapse.specs.Collapse.{collapse}
 use Rattle.measurement.specs.Stabilizers.{Stabilizes, Generated, Remaining}
 
--- The zero tableau is valid, and each gate, error and free measurement keeps validity.
-abbrev pub ZeroValid : Type 0
-ZeroValid = (d n : ℕ) → Dimension d → (t : List ℕ) → 2 * n * (2 * n + 1) ≤ length t → Valid d n (zeroTableau n t)
+-- The products of the stabilizer set are d^n: each settles its exponents.
+abbrev pub AllDifferent : Type 0
+AllDifferent = (d n : ℕ) → Dimension d → (t : List ℕ) → Valid d n t → (h h' : ℕ → ℕ)
+    → ((i : ℕ) → i < n → h i < d) → ((i : ℕ) → i < n → h' i < d)
+    → combination d n t h n ≡ combination d n t h' n → (i : ℕ) → i < n → h i ≡ h' i
 
-abbrev pub GateKeepsValid : Type 0
-GateKeepsValid = (d n : ℕ) → Dimension d → (op : Operation) → allowed d n op ≡ true
-    → (t : List ℕ) → Valid d n t → Valid d n (gateRows d n op t)
-
-abbrev pub ErrorKeepsValid : Type 0
-ErrorKeepsValid = (d n : ℕ) → Dimension d → (e : WeylError) → errorAllowed d n e ≡ true
-    → (t : List ℕ) → Valid d n t → Valid d n (errorRows d n e t)
-
+-- A free measurement keeps validity.
 abbrev pub CollapseKeepsValid : Type 0
 CollapseKeepsValid = (d n : ℕ) → Dimension d → (t : List ℕ) → Valid d n t → (q k m : ℕ) → q < n → m < d
     → look d n t q ≡ Seen (Free k) → Valid d n (collapse d n q k m t)

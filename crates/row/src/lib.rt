@@ -8,7 +8,7 @@ ghost use Rattle.row.specs.Generators.{unit};
 ghost use Rattle.row.specs.Fill.{filled, multipleAt};
 ghost use Rattle.row.specs.Even.{added};
 
-fn wide(x: u8) -> u16
+pub fn wide(x: u8) -> u16
     ensures { λ r. ⌜ r ≡ x ⌝ }
 {
     x as u16
@@ -37,7 +37,7 @@ fn add(v: &mut [u8], w: &[u8], d: u8, n: usize)
 }
 
 // v becomes v times w, for rows with even phases that commute: every byte gains w's.
-pub fn product(v: &mut [u8], w: &[u8], d: u8, n: usize)
+pub fn even_product(v: &mut [u8], w: &[u8], d: u8, n: usize)
     requires { ⌜ (d ≤ 31) × Row d n (now v) × Row d n (now w) ⌝ }
     ensures { λ _. ⌜ now (v .exit) ≡ added d n (now (v .entry)) (now (w .entry)) ⌝ }
 {

@@ -9,8 +9,8 @@ use lib.Dec.{eqb}
 use lib.ListN.{length, length-set}
 use Rattle.row.specs.Row.{Powers, Row}
 use Rattle.row.proofs.Laws.{powers-of}
-use Rattle.tableau.specs.Tableau.{Tableau, row, every}
-use Rattle.tableau.proofs.Parts.{Keeps, tableau-row, on-tableau}
+use Rattle.tableau.specs.Tableau.{every}
+use Rattle.tableau.proofs.Parts.{Keeps}
 use Rattle.operation.specs.declared.Operation.{Operation}
 use Rattle.operation.specs.declared.WeylError.{WeylError}
 use Rattle.operation.specs.Operation.{allowed}
@@ -20,7 +20,7 @@ use Rattle.operation.proofs.Stores.{row-phase}
 use Rattle.operation.proofs.Gate.{gate-powers-length, gate-powers}
 use Rattle.operation.proofs.Error.{error-frame-length, error-powers}
 use Rattle.circuit.specs.Circuit.{errAt}
-use Rattle.run.specs.Frame.{strikeFrame, shiftRow, shiftRows}
+use Rattle.run.specs.Frame.{strikeFrame, shiftRow}
 
 -- a frame of n qudits
 pub record Frame (d n : ℕ) (F : List ℕ) : Type 0 where
@@ -54,7 +54,3 @@ module _ (d n : ℕ) (F : List ℕ) where
   pub shift-row : (v : List ℕ) → 0 < d → Row d n v → Row d n (shiftRow d n F v)
   unfolding shiftRow
   shift-row v low r = row-phase (powers-of r) (r .len) (mod-lt _ low)
-
-  pub shift-tableau : (t : List ℕ) → 0 < d → Tableau d n t → Tableau d n (shiftRows d n F t)
-  shift-tableau t low h =
-      on-tableau d n (every (shiftRow d n F)) shift-keeps t h (λ i l. shift-row (row n t i) low (tableau-row d n t h i l))

@@ -11,7 +11,7 @@ ghost use Rattle.tableau.specs.Tableau.{Tableau, put, row};
 ghost use Rattle.run.specs.Frame.{shiftAt, shiftRow, shiftRows, verdictOf};
 ghost use Rattle.shift.specs.Verdict.{isZero};
 
-// The shift of a row is its pairing with the frame; it is added to the row's phase.
+// The shift of a row is the pairing of the frame with it; it is added to the row's phase.
 fn shift_row(v: &mut [u8], frame: &[u8], d: u8, m: u64, n: usize) -> u8
     requires { ⌜ (n ≤ 64) × Row d n (now v) × Powers d n (now frame) × WideReciprocal d m ⌝ }
     ensures { λ r. ⌜ (r ≡ pairing d n (now (frame .entry)) (now (v .entry))) × (now (v .exit) ≡ shiftRow d n (now (frame .entry)) (now (v .entry))) ⌝ }

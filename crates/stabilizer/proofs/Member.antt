@@ -1,7 +1,7 @@
 -- The stabilizer set: the ordered products of powers of n rows. It is closed under the product, and for the stabilizers of a
 -- valid tableau has at most one member with given powers. Assumes nothing.
 use mathlib.Core.Path.{_≡_, sym, _∙_, ap}
-use Prim.Native.Nat.{ℕ, zero, suc, _+_, _*_, _≤_, _<_, _%_}
+use Prim.Native.Nat.{ℕ, zero, suc, _+_, _*_, _<_, _%_}
 use native.Mathlib.Omega.{arith}
 use native.Mathlib.Decide.{ℕ-discrete}
 use native.Mathlib.Nat.{mod-lt}
@@ -10,8 +10,8 @@ use Rattle.congruence.proofs.Sum.{sum, sum-congr, sum-cong, unit, unit-same, un
 use Rattle.symplectic.proofs.Triangle.{tri}
 use Rattle.symplectic.proofs.Pairing.{half, half-mul-left, half-cong, pair, pair-cong, pair→half, zed, pair-zed}
 use Rattle.symplectic.proofs.Map.{Same}
-use Rattle.stabilizer.proofs.Span.{Inverses, none-left, sum-none}
-use Rattle.stabilizer.proofs.Basis.{Valid, certain}
+use Rattle.stabilizer.proofs.Span.{none-left, sum-none}
+use Rattle.stabilizer.proofs.Basis.{Valid}
 use Rattle.stabilizer.proofs.Product.{vec, phs, pair-vec, vec-cong, phs-cong, vec-none, phs-none, phs-unit, Commute, vec-add, phs-add}
 
 -- A property of rows, given by powers and phase, that is closed under the product.
@@ -133,12 +133,6 @@ module _ (e n : ℕ) (v : ℕ → ℕ → ℕ) (ok : Valid e n v) where
         → (i : ℕ) → i < n → Cong (suc e) (v (n + i) q) 0
     member-certain q lq p m i l =
         cong-trans (cong-eq (suc e) (sym (pair-zed e n q lq (v (n + i))))) (member-pair (zed n q) p m i l)
-
-pub certain-member : (e n : ℕ) → 1 ≤ e → Inverses (suc e) → (v : ℕ → ℕ → ℕ) → Valid e n v → (r : ℕ → ℕ) (q : ℕ) → q < n
-    → ((i : ℕ) → i < n → Cong (suc e) (v (n + i) q) 0)
-    → Member (suc e) n (λ i. v (n + i)) r (zed n q) (phs n (λ i. v (n + i)) r (λ i. v i q) n)
-certain-member e n le inv v ok r q lq h =
-    record { by = λ i. v i q; powers = certain e n le inv v ok q lq h; phase = cong-refl (suc e) _ }
 
 -- There is one member with given powers: they settle the exponents.
 pub member-unique : (f n : ℕ) (v : ℕ → ℕ → ℕ) → Valid (f + f) n v → (r : ℕ → ℕ) (u : ℕ → ℕ) (p : ℕ) (u' : ℕ → ℕ) (p' : ℕ)

@@ -7,7 +7,7 @@ use native.Mathlib.Decide.{ℕ-discrete}
 use Rattle.congruence.proofs.Congruence.{Cong, cong-refl, cong-eq, cong-trans, cong-add, cong-mul, cong-mul-left}
 use Rattle.congruence.proofs.Sum.{sum, sum-congr, sum-cong, sum-add, sum-zero, unit, unit-same, unit-other, sum-unit-out}
 use Rattle.symplectic.proofs.Triangle.{tri, tri-add, tri-cong}
-use Rattle.symplectic.proofs.Pairing.{half, half-add-left, half-add-right, half-mul-left, half-mul-right, half-none-left, half-none-right, half-congr, half-cong, pair, pair-left, pair-right}
+use Rattle.symplectic.proofs.Pairing.{half, half-add-left, half-add-right, half-mul-left, half-mul-right, half-none-left, half-none-right, half-congr, half-cong, pair, pair-left}
 use Rattle.symplectic.proofs.Map.{Same}
 
 -- The powers of the product of the first k rows of g, row i to the power h i.
@@ -39,11 +39,6 @@ unfolding sum
 pair-vec e n g h zero w = omega (arith, half-none-left n w, ap (λ (z : ℕ). e * z) (half-none-right n w))
 pair-vec e n g h (suc k) w = pair-left e n (vec g h k) (g k) w (h k) ∙ omega (arith, pair-vec e n g h k w)
 
-pub pair-to-vec : (e n : ℕ) (w : ℕ → ℕ) (g : ℕ → ℕ → ℕ) (h : ℕ → ℕ) (k : ℕ) → pair e n w (vec g h k) ≡ sum k (λ i. h i * pair e n w (g i))
-unfolding sum
-pair-to-vec e n w g h zero = omega (arith, half-none-right n w, ap (λ (z : ℕ). e * z) (half-none-left n w))
-pair-to-vec e n w g h (suc k) = pair-right e n w (vec g h k) (g k) (h k) ∙ omega (arith, pair-to-vec e n w g h k)
-
 -- The product depends on rests alone: on those of the rows and, for odd d, of the exponents.
 pub vec-cong : (d n : ℕ) (g g' : ℕ → ℕ → ℕ) (h h' : ℕ → ℕ) (k : ℕ)
     → ((i : ℕ) → i < k → Same d n (g i) (g' i))
@@ -69,26 +64,12 @@ phs-rests d n g g' r r' h h' (suc k) a b c t =
     (vec-cong d n g g' h h' k (λ i l. a i (omega arith)) (λ i l. c i (omega arith)))
     (λ s l. cong-mul (c k (omega arith)) (a k (omega arith) s l)))
 
-pub phs-same : (d n : ℕ) (g g' : ℕ → ℕ → ℕ) (r r' h : ℕ → ℕ) (k : ℕ)
-    → ((i : ℕ) → i < k → Same d n (g i) (g' i))
-    → ((i : ℕ) → i < k → Cong d (r i) (r' i))
-    → Cong d (phs n g r h k) (phs n g' r' h k)
-phs-same d n g g' r r' h k a b =
-    phs-rests d n g g' r r' h h k a b (λ i l. cong-refl d (h i)) (λ i l. cong-refl d (tri (h i)))
-
 pub phs-cong : (f n : ℕ) (g : ℕ → ℕ → ℕ) (r h h' : ℕ → ℕ) (k : ℕ)
     → ((i : ℕ) → i < k → Cong (suc (f + f)) (h i) (h' i))
     → Cong (suc (f + f)) (phs n g r h k) (phs n g r h' k)
 phs-cong f n g r h h' k c =
     phs-rests (suc (f + f)) n g g r r h h' k (λ i l s ls. cong-refl (suc (f + f)) (g i s)) (λ i l. cong-refl (suc (f + f)) (r i)) c
     (λ i l. tri-cong f (c i l))
-
--- Phases shifted row by row: the product's phase shifts by the combination.
-pub phs-shift : (n : ℕ) (g : ℕ → ℕ → ℕ) (r c h : ℕ → ℕ) (k : ℕ)
-    → phs n g (λ i. r i + c i) h k ≡ phs n g r h k + sum k (λ i. h i * c i)
-unfolding phs sum
-phs-shift n g r c h zero = refl
-phs-shift n g r c h (suc k) = omega (arith, phs-shift n g r c h k)
 
 -- No rows, and one row.
 pub vec-none : (g : ℕ → ℕ → ℕ) (k s : ℕ) → vec g (λ i. 0) k s ≡ 0

@@ -102,15 +102,6 @@ ex n q = unit q
 abbrev pub zed : (n q : ℕ) → ℕ → ℕ
 zed n q = unit (n + q)
 
-pub half-ex : (n q : ℕ) → q < n → (w : ℕ → ℕ) → half n (ex n q) w ≡ 0
-half-ex n q l w =
-    sum-congr n (λ i. unit q (n + i) * w i) (λ i. 0) (λ i li. ap (λ (z : ℕ). z * w i) (unit-other q (n + i) (omega arith)) ∙ omega arith)
-    ∙ sum-zero n
-
-pub half-to-ex : (n q : ℕ) → q < n → (w : ℕ → ℕ) → half n w (ex n q) ≡ w (n + q)
-half-to-ex n q l w =
-    sum-congr n (λ i. w (n + i) * unit q i) (λ i. unit q i * w (n + i)) (λ i li. omega arith) ∙ sum-unit n q (λ i. w (n + i)) l
-
 pub half-zed : (n q : ℕ) → q < n → (w : ℕ → ℕ) → half n (zed n q) w ≡ w q
 half-zed n q l w =
     sum-congr n (λ i. unit (n + q) (n + i) * w i) (λ i. unit q i * w i) (λ i li. ap (λ (z : ℕ). z * w i) (go i (ℕ-discrete i q)))
@@ -125,10 +116,6 @@ half-to-zed n q w =
     sum-congr n (λ i. w (n + i) * unit (n + q) i) (λ i. 0)
     (λ i li. ap (λ (z : ℕ). w (n + i) * z) (unit-other (n + q) i (omega arith)) ∙ omega arith)
     ∙ sum-zero n
-
--- The pairing with them reads off a power.
-pub pair-ex : (e n q : ℕ) → q < n → (w : ℕ → ℕ) → pair e n (ex n q) w ≡ e * w (n + q)
-pair-ex e n q l w = omega (arith, half-ex n q l w, ap (λ (z : ℕ). e * z) (half-to-ex n q l w))
 
 pub pair-zed : (e n q : ℕ) → q < n → (w : ℕ → ℕ) → pair e n (zed n q) w ≡ w q
 pair-zed e n q l w = omega (arith, half-zed n q l w, ap (λ (z : ℕ). e * z) (half-to-zed n q w))

@@ -673,7 +673,7 @@ fn carry(frame: &mut [u8], n: usize, error: &[u8], d: u8) {
     frame[n + q] = add(d, frame[n + q], error[4]);
 }
 
-/// Shifts each row's phase by its pairing with the frame. The verdict.
+/// Shifts each row's phase by the pairing of the frame with that row. The verdict.
 fn shift(rows: &mut [u8], n: usize, frame: &[u8], shifts: &mut [u8], m: &Modulo) -> usize {
     let mut any = 0;
     for (row, shift) in rows.chunks_exact_mut(2 * n + 1).zip(shifts) {

@@ -27,6 +27,13 @@ impl Complex {
             im: self.im * by,
         }
     }
+
+    fn conjugate(self) -> Complex {
+        Complex {
+            re: self.re,
+            im: -self.im,
+        }
+    }
 }
 
 impl Add for Complex {
@@ -162,6 +169,15 @@ impl State {
         pairs
             .map(|(x, y)| (*x - *y).squared().sqrt())
             .fold(0.0, f64::max)
+    }
+
+    /// The inner product, squared: 1 if the states differ by a phase alone.
+    pub fn overlap(&self, other: &State) -> f64 {
+        let mut inner = Complex::ZERO;
+        for (x, y) in self.amplitudes.iter().zip(&other.amplitudes) {
+            inner += x.conjugate() * *y;
+        }
+        inner.squared()
     }
 
     /// The level of qudit q in the basis state i.

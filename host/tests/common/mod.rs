@@ -7,6 +7,10 @@ pub mod plain;
 use cagvost::Refusal;
 use cagvost::book::{Book, Operation};
 
+/// A byte that no call writes: results, marks, shifts, powers and phases are below 31. Buffers are
+/// filled with it before a call, so that a byte left unwritten shows.
+pub const UNWRITTEN: u8 = 255;
+
 /// The 45-byte book of the specification.
 pub const PAPER_BOOK: [u8; 45] = [
     0x51, 0x03, 0x02, 0x03, 0x01, 0x00, 0x16, 0x00, 0x10, 0x00, 0x02, 0x00, 0x26, 0x00, 0x05, 0x00,

@@ -18,25 +18,25 @@ mul-s c = omega arith
 add-e : tie.Need-add-e
 add-e c = omega arith
 
-sub-product : tie.Need-sub-product
-sub-product c = omega arith
+sub-even-product : tie.Need-sub-even-product
+sub-even-product c = omega arith
 
-part-product-start : tie.Need-part-product-start
-part-product-start c = omega arith
+part-even-product-start : tie.Need-part-even-product-start
+part-even-product-start c = omega arith
 
-part-product-end : tie.Need-part-product-end
-part-product-end c = omega arith
+part-even-product-end : tie.Need-part-even-product-end
+part-even-product-end c = omega arith
 
-product-requires : tie.Need-product-requires
+even-product-requires : tie.Need-even-product-requires
 unfolding part
-product-requires c κs = let p = c .before .before .before .before .pre in (p .0, p .2, simp add-sub-cancel-left (p .3))
+even-product-requires c κs = let p = c .before .before .before .before .pre in (p .0, p .2, simp add-sub-cancel-left (p .3))
 
 same-length : tie.Need-same-length
 same-length c = omega arith
 
 returns : tie.Need-returns
 unfolding part
-returns c = simp (c .before .before .product .ensures, add-sub-cancel-left)
+returns c = simp (c .before .before .even-product .ensures, add-sub-cancel-left)
 
 pub multiply-spec : {M : Type 1} → statement M
 multiply-spec =
@@ -46,9 +46,9 @@ multiply-spec =
     add-w
     mul-s
     add-e
-    sub-product
-    part-product-start
-    part-product-end
-    product-requires
+    sub-even-product
+    part-even-product-start
+    part-even-product-end
+    even-product-requires
     same-length
     returns)

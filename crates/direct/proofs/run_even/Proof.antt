@@ -12,7 +12,7 @@ use Rattle.book.specs.Decoded.{operationsOf, errorsOf}
 use Rattle.book.proofs.Lists.{op-count}
 use Rattle.run.specs.Direct.{directStep}
 use Rattle.measure.proofs.Going.{Going, going-start, going-on, going-stops, going-ends}
-use Rattle.direct.proofs.Steps.{run-refused, run-done}
+use Rattle.direct.proofs.Answers.{run-refused, run-done}
 use Rattle.direct.proofs.run_even.Statement.{statement}
 use Rattle.direct.proofs.run_even.Tie as tie
 
@@ -82,7 +82,7 @@ strike-requires c κs =
     let l = c .before .before in
     let s = l .before .before .before .before .before .before in
     let i = l .loop .inv in
-    (s .pre .0 .dimension, s .pre .0 .qudits, i .2, i .0 .reached, s .pre .0 .lists .strikes, s .pre .0 .lists .in-order)
+    (s .pre .0 .dimension, s .pre .0 .qudits, i .2, i .0 .reached, s .pre .0 .lists .strikes)
 
 same-length-3 : tie.Need-same-length-3 Inv-loop μ-loop
 same-length-3 c = search needs

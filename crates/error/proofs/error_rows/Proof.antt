@@ -10,7 +10,7 @@ use Rattle.tableau.proofs.Parts.{each-more, each-all, turn-room, turn-row}
 use Rattle.operation.specs.Error.{errorRow}
 use Rattle.operation.proofs.Error.{error-keeps}
 use Rattle.validity.proofs.Exactly.{valid-tableau}
-use Rattle.measurement.proofs.Kept.{error-keeps-valid}
+use Rattle.keeping.proofs.Keeping.{error-keeps-valid}
 use Rattle.error.proofs.Even.{rows-plain}
 use Rattle.error.proofs.error_rows.Statement.{statement}
 use Rattle.error.proofs.error_rows.Tie as tie

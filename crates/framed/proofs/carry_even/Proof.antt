@@ -15,7 +15,7 @@ use Rattle.book.specs.Decoded.{operationsOf, errorsOf}
 use Rattle.book.proofs.Lists.{op-count}
 use Rattle.run.specs.Frame.{framedStep}
 use Rattle.measure.proofs.Going.{Going, going-start, going-on, going-stops, going-ends}
-use Rattle.framed.proofs.Steps.{all-stops, all-ends}
+use Rattle.framed.proofs.Carried.{all-stops, all-ends}
 use Rattle.framed.proofs.carry_even.Statement.{statement}
 use Rattle.framed.proofs.carry_even.Tie as tie
 
@@ -100,7 +100,7 @@ strike-requires : tie.Need-strike-requires Inv-loop μ-loop
 strike-requires c κs =
     let l = c .before .before in
     let s = l .before .before .before .before .before .before .before in
-    (dimension (s .args .d) (s .pre .0 .dimension) .high, l .loop .inv .3, l .loop .inv .0 .reached, s .pre .0 .lists .strikes, s .pre .0 .lists .in-order)
+    (dimension (s .args .d) (s .pre .0 .dimension) .high, l .loop .inv .3, l .loop .inv .0 .reached, s .pre .0 .lists .strikes)
 
 same-length-4 : tie.Need-same-length-4 Inv-loop μ-loop
 same-length-4 c = search needs

@@ -10,7 +10,9 @@ use Rattle.inverse.proofs.inverse.Statement.{statement}
 use Rattle.inverse.proofs.inverse.Tie as tie
 
 returns : tie.Need-returns
-returns c = sym (inverse-past (c .before .args .d) (c .before .args .u) (c .if1 .taken))
+returns c =
+    let s = c .before in
+    sym (inverse-past (s .args .d) (s .args .u) (omega (arith, c .if1 .taken, dimension (s .args .d) (s .pre) .high)))
 
 place-requires : tie.Need-place-requires
 place-requires c κs = search needs
@@ -40,8 +42,7 @@ returns-2 : tie.Need-returns-2
 unfolding inverse inverseBelow
 returns-2 c =
     let s = c .before .before .before in
-    found (s .args .d) (c .before .place .result) (s .args .u) (c .before .place .ensures .0) (c .before .place .ensures .1)
-    (omega (arith, dimension (s .args .d) (s .pre) .high))
+    found (s .args .d) (c .before .place .result) (s .args .u) (c .before .place .ensures .0) (c .before .place .ensures .1) (omega arith)
 
 pub inverse-spec : {M : Type 1} → statement M
 inverse-spec =

@@ -1,0 +1,79 @@
+-- An entry is an operation exactly if its bytes are that operation's, with the operands in range.
+-- Assumes nothing.
+use mathlib.Core.Path.{_≡_, refl, ap, _∙_}
+use mathlib.Core.Bool.{Bool, true, false, cond, _&&_, and-eq-true-iff}
+use mathlib.Core.List.{List, [], _∷_}
+use Prim.Native.Nat.{ℕ}
+use lib.Dec.{eqb}
+use borrow.Author.Tests.{eqb-true}
+use Rattle.operation.specs.declared.Operation.{Operation}
+use Rattle.operation.specs.declared.Operation.the-variants.{Fourier, PhaseGate, Sum, Cz, Swap, Multiplier, Measure}
+use Rattle.operation.specs.Operation.{allowed}
+use Rattle.entries.specs.declared.Decoded.{Decoded}
+use Rattle.entries.specs.declared.Decoded.the-variants.{Good}
+use Rattle.entries.specs.Entry.{bytesOf, when, given, decoded, operationAt, Spelled}
+
+-- an operation's own bytes are it
+its-own : (d n : ℕ) (op : Operation) → allowed d n op ≡ true → operationAt d n (bytesOf op) 0 ≡ Good op
+unfolding bytesOf decoded
+its-own d n (Fourier q) h = rw h
+its-own d n (PhaseGate q) h = rw h
+its-own d n (Sum c t) h = rw h
+its-own d n (Cz c t) h = rw h
+its-own d n (Swap c t) h = rw h
+its-own d n (Multiplier q u) h = rw h
+its-own d n (Measure q) h = rw h
+
+either : (t : Bool) (x y : Decoded) (op : Operation) {A : Type 0} → (t ≡ true → x ≡ Good op → A) → (y ≡ Good op → A) → cond t x y ≡ Good op → A
+either true x y op f g e = f refl e
+either false x y op f g e = g e
+
+whole : (t : Bool) (p op : Operation) → when t p ≡ Good op → (t ≡ true) × (p ≡ op)
+whole true p op e = (refl, cc)
+whole false p op e = (cc, cc)
+
+module _ (d n b0 b1 b2 b3 : ℕ) (op : Operation) where
+  abbrev bytes : List ℕ
+  bytes = b0 ∷ b1 ∷ b2 ∷ b3 ∷ []
+
+  abbrev Is : Type 0
+  Is = (allowed d n op ≡ true) × (bytes ≡ bytesOf op)
+
+  -- one line of the table: the bytes are p's where the code is its code and the bytes not named are 0
+  line : (code : ℕ) (p : Operation) (unnamed : Bool) (rest : Decoded)
+      → (b0 ≡ code → unnamed ≡ true → bytes ≡ bytesOf p)
+      → (rest ≡ Good op → Is) → cond (eqb b0 code) (given d n p unnamed) rest ≡ Good op → Is
+  line code p unnamed rest spelt later =
+      either (eqb b0 code) (given d n p unnamed) rest op
+      (λ c e.
+      let w = whole (allowed d n p && unnamed) p op e in
+      let a = and-eq-true-iff (allowed d n p) unnamed .0 (w .0) in
+      (rw (← w .1) (a .0), spelt (eqb-true b0 code c) (a .1) ∙ ap bytesOf (w .1)))
+      later
+
+  -- the bytes of a line that names one qudit; two qudits; a qudit and a factor
+  one : (code : ℕ) → b0 ≡ code → eqb b2 0 && eqb b3 0 ≡ true → bytes ≡ code ∷ b1 ∷ 0 ∷ 0 ∷ []
+  one code c u =
+      let z = and-eq-true-iff (eqb b2 0) (eqb b3 0) .0 u in
+      cc (eqb-true b2 0 (z .0), eqb-true b3 0 (z .1))
+
+  two : (code : ℕ) → b0 ≡ code → eqb b3 0 ≡ true → bytes ≡ code ∷ b1 ∷ b2 ∷ 0 ∷ []
+  two code c u = cc (eqb-true b3 0 u)
+
+  factor : (code : ℕ) → b0 ≡ code → eqb b2 0 ≡ true → bytes ≡ code ∷ b1 ∷ 0 ∷ b3 ∷ []
+  factor code c u = cc (eqb-true b2 0 u)
+
+  pub spelling : decoded d n b0 b1 b2 b3 ≡ Good op → Is
+  unfolding decoded bytesOf
+  spelling =
+      line 0 (Fourier b1) _ _ (one 0)
+      (line 1 (PhaseGate b1) _ _ (one 1)
+      (line 2 (Sum b1 b2) _ _ (two 2)
+      (line 3 (Cz b1 b2) _ _ (two 3)
+      (line 4 (Swap b1 b2) _ _ (two 4)
+      (line 5 (Multiplier b1 b3) _ _ (factor 5)
+      (line 6 (Measure b1) _ _ (one 6) (λ e. (cc, cc))))))))
+
+pub spelled : Spelled
+spelled d n b0 b1 b2 b3 op =
+    (spelling d n b0 b1 b2 b3 op, λ h. ap (λ (s : List ℕ). operationAt d n s 0) (h .1) ∙ its-own d n op (h .0))

@@ -1,0 +1,3 @@
+-- What other proofs use.
+pub mod View
+pub mod Keeping

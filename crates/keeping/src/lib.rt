@@ -1,0 +1,1 @@
+// What keeps a tableau valid; no code.
