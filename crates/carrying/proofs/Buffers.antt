@@ -11,10 +11,10 @@ use Rattle.operation.specs.declared.Operation.{Operation}
 use Rattle.operation.specs.declared.WeylError.{WeylError}
 use Rattle.circuit.specs.Circuit.{opAt, Kind, gate, measures, kind, tallyKind, measured}
 use Rattle.validity.proofs.Exactly.{valid-tableau}
-use Rattle.look.specs.declared.Look.the-variants.{Free, Certain}
-use Rattle.look.specs.declared.Looked.{Looked}
-use Rattle.look.specs.declared.Looked.the-variants.{Seen, NotZ}
-use Rattle.look.specs.Look.{look}
+use Rattle.outcome.specs.declared.Look.the-variants.{Free, Certain}
+use Rattle.outcome.specs.declared.Looked.{Looked}
+use Rattle.outcome.specs.declared.Looked.the-variants.{Seen, NotZ}
+use Rattle.outcome.specs.Look.{look}
 use Rattle.measurement.proofs.Looks.{look-free}
 use Rattle.run.specs.Run.{Run, refused, done, andThen, onward}
 use Rattle.run.specs.Direct.{State, directLook, directKind, directStrike, directStep, directEnd, directRun}

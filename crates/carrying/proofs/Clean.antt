@@ -10,10 +10,10 @@ use Rattle.row.specs.Row.{xOf}
 use Rattle.operation.specs.declared.Operation.{Operation}
 use Rattle.operation.specs.declared.WeylError.{WeylError}
 use Rattle.circuit.specs.Circuit.{opAt, Kind, gate, measures, kind, tallyKind, measured}
-use Rattle.look.specs.declared.Look.the-variants.{Free, Certain}
-use Rattle.look.specs.declared.Looked.{Looked}
-use Rattle.look.specs.declared.Looked.the-variants.{Seen, NotZ}
-use Rattle.look.specs.Look.{look}
+use Rattle.outcome.specs.declared.Look.the-variants.{Free, Certain}
+use Rattle.outcome.specs.declared.Looked.{Looked}
+use Rattle.outcome.specs.declared.Looked.the-variants.{Seen, NotZ}
+use Rattle.outcome.specs.Look.{look}
 use Rattle.run.specs.Run.{Run, refused, done, andThen, onward, noted}
 use Rattle.run.specs.Direct.{State, strike, directLook, directKind, directStrike, directStep, directEnd, directRun}
 use Rattle.run.specs.Frame.{Framed, framedLook, framedKind, framedStrike, framedStep, framedLeave, framedEnd, frameRunFrom}

@@ -13,8 +13,8 @@ use Rattle.operation.specs.declared.WeylError.{WeylError}
 use Rattle.circuit.specs.Circuit.{opAt, Kind, gate, measures, kind, measured, Accepted}
 use Rattle.validity.specs.Validity.{Valid}
 use Rattle.validity.proofs.Exactly.{valid-tableau}
-use Rattle.look.specs.declared.Looked.{Looked}
-use Rattle.look.specs.Look.{look}
+use Rattle.outcome.specs.declared.Looked.{Looked}
+use Rattle.outcome.specs.Look.{look}
 use Rattle.keeping.proofs.Keeping.{gate-keeps-valid}
 use Rattle.measurement.proofs.Free.{collapse-keeps-valid}
 use Rattle.run.specs.Run.{Run, done, andThen, onward}

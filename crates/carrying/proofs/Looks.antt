@@ -18,11 +18,11 @@ use Rattle.search.proofs.Search.{found-fails, all-good}
 use Rattle.tableau.specs.Tableau.{every}
 use Rattle.validity.specs.Validity.{Valid}
 use Rattle.validity.proofs.Exactly.{valid-tableau}
-use Rattle.look.specs.declared.Look.the-variants.{Free, Certain}
-use Rattle.look.specs.declared.Looked.{Looked}
-use Rattle.look.specs.declared.Looked.the-variants.{Seen}
-use Rattle.look.specs.Look.{stabilizerPower, commutes, pivotOf, weighted, lookBy, look}
-use Rattle.look.proofs.Combination.{pivot-same}
+use Rattle.outcome.specs.declared.Look.the-variants.{Free, Certain}
+use Rattle.outcome.specs.declared.Looked.{Looked}
+use Rattle.outcome.specs.declared.Looked.the-variants.{Seen}
+use Rattle.outcome.specs.Look.{stabilizerPower, commutes, pivotOf, weighted, lookBy, look}
+use Rattle.outcome.proofs.Combination.{pivot-same}
 use Rattle.keeping.proofs.View.{reads-at, basis, valid-on}
 use Rattle.measurement.proofs.Combination.{reads-weighted}
 use Rattle.measurement.proofs.Looks.{Commuting}

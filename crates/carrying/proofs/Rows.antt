@@ -23,10 +23,10 @@ use Rattle.operation.specs.Error.{errorAllowed, errorRow, errorRows, errorFrame
 use Rattle.operation.proofs.Gate.{gate-keeps}
 use Rattle.operation.proofs.Error.{error-keeps}
 use Rattle.circuit.specs.Circuit.{errAt}
-use Rattle.look.specs.Look.{destabilizerPower, combination, weighted}
-use Rattle.look.proofs.Combination.{combination-row}
-use Rattle.collapse.specs.Collapse.{collapseRow, collapse}
-use Rattle.collapse.proofs.Collapsed.{collapsed-keeps}
+use Rattle.outcome.specs.Look.{destabilizerPower, combination, weighted}
+use Rattle.outcome.proofs.Combination.{combination-row}
+use Rattle.outcome.specs.Collapse.{collapseRow, collapse}
+use Rattle.outcome.proofs.Collapsed.{collapsed-keeps}
 use Rattle.run.specs.Direct.{strike}
 use Rattle.run.specs.Frame.{strikeFrame, shiftRow, shiftRows}
 use Rattle.run.proofs.Frames.{Frame, strike-frame, shift-keeps}

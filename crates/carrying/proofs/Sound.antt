@@ -14,10 +14,10 @@ use Rattle.operation.specs.declared.WeylError.{WeylError}
 use Rattle.operation.specs.Error.{errorRows}
 use Rattle.circuit.specs.Circuit.{opAt, errAt, Kind, gate, measures, kind, measured, Accepted}
 use Rattle.validity.specs.Validity.{Valid}
-use Rattle.look.specs.declared.Look.the-variants.{Free, Certain}
-use Rattle.look.specs.declared.Looked.{Looked}
-use Rattle.look.specs.declared.Looked.the-variants.{Seen, NotZ}
-use Rattle.look.specs.Look.{look}
+use Rattle.outcome.specs.declared.Look.the-variants.{Free, Certain}
+use Rattle.outcome.specs.declared.Looked.{Looked}
+use Rattle.outcome.specs.declared.Looked.the-variants.{Seen, NotZ}
+use Rattle.outcome.specs.Look.{look}
 use Rattle.measurement.proofs.Certain.{always-seen}
 use Rattle.keeping.proofs.Keeping.{gate-keeps-valid, error-keeps-valid}
 use Rattle.measurement.proofs.Free.{collapse-keeps-valid}

@@ -21,10 +21,10 @@ use Rattle.operation.proofs.Error.{error-keeps}
 use Rattle.circuit.specs.Circuit.{errAt}
 use Rattle.search.specs.declared.Place.{Place}
 use Rattle.search.specs.declared.Place.the-variants.{At, Nowhere}
-use Rattle.look.specs.Look.{destabilizerPower, pivotOf, combination, weighted, outcomeOf, lookBy, look}
-use Rattle.look.proofs.Combination.{pivot-same}
-use Rattle.collapse.specs.Collapse.{collapseRow, collapse}
-use Rattle.collapse.proofs.Collapsed.{collapsed-keeps}
+use Rattle.outcome.specs.Look.{destabilizerPower, pivotOf, combination, weighted, outcomeOf, lookBy, look}
+use Rattle.outcome.proofs.Combination.{pivot-same}
+use Rattle.outcome.specs.Collapse.{collapseRow, collapse}
+use Rattle.outcome.proofs.Collapsed.{collapsed-keeps}
 use Rattle.run.specs.Direct.{strike}
 
 pub record Window (n : ℕ) (t u : List ℕ) : Type 0 where

@@ -14,8 +14,8 @@ use Rattle.search.specs.Search.{all, firstNot}
 use Rattle.tableau.specs.Tableau.{part, put, eachRow}
 use Rattle.layer.specs.Layer.{zeroTableau}
 use Rattle.circuit.specs.Circuit.{measured}
-use Rattle.look.specs.Look.{pivotOf, combination, weighted, isZ, outcomeOf, look}
-use Rattle.collapse.specs.Collapse.{collapseRow, collapse}
+use Rattle.outcome.specs.Look.{pivotOf, combination, weighted, isZ, outcomeOf, look}
+use Rattle.outcome.specs.Collapse.{collapseRow, collapse}
 use Rattle.run.specs.Run.{done, onward, noted}
 use Rattle.run.specs.Direct.{State, strike, directLook, directKind, directStrike, directStep, directEnd, directRun}
 

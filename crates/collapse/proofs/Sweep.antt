@@ -14,7 +14,7 @@ use lib.Seq.{length-take-le, take-suc, take-set-le, take-suc-set, getD-take, get
 use borrow.Author.Tests.{eqb-true, not-false}
 use Rattle.tableau.specs.Tableau.{Tableau, part, put, row, eachRow}
 use Rattle.tableau.proofs.Parts.{Keeps, each-later, row-at, tableau-row}
-use Rattle.collapse.specs.Even.{evenCollapseRow}
+use Rattle.outcome.specs.EvenCollapse.{evenCollapseRow}
 use Rattle.collapse.specs.Setting.{Setting}
 use Rattle.collapse.specs.Changing.{chosen, isChanging}
 use Rattle.collapse.proofs.Exponents.{table-at, stays}

@@ -1,4 +1,2 @@
-pub mod Collapse
 pub mod Setting
 pub mod Changing
-pub mod Even

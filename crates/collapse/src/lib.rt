@@ -9,8 +9,8 @@ ghost use Rattle.row.specs.Even.{added};
 ghost use Rattle.tableau.specs.Tableau.{Tableau, put, row, onRows};
 ghost use Rattle.validity.specs.Validity.{Valid};
 ghost use Rattle.even.specs.Even.{plain};
-ghost use Rattle.collapse.specs.Collapse.{collapse};
-ghost use Rattle.collapse.specs.Even.{evenCollapseRow, evenCollapse};
+ghost use Rattle.outcome.specs.Collapse.{collapse};
+ghost use Rattle.outcome.specs.EvenCollapse.{evenCollapseRow, evenCollapse};
 ghost use Rattle.collapse.specs.Setting.{Multiples, Setting};
 ghost use Rattle.collapse.specs.Changing.{chosen, isChanging};
 

@@ -1,2 +1,3 @@
 -- What the proofs of several functions use.
+pub mod Gain
 pub mod Even

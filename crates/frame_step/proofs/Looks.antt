@@ -5,9 +5,9 @@ use mathlib.Core.Bool.{Bool, true, false}
 use mathlib.Core.List.{List}
 use Prim.Native.Nat.{ℕ}
 use lib.ListN.{getD}
-use Rattle.look.specs.declared.Look.the-variants.{Free, Certain}
-use Rattle.look.specs.declared.Looked.{Looked}
-use Rattle.look.specs.declared.Looked.the-variants.{Seen, NotZ}
+use Rattle.outcome.specs.declared.Look.the-variants.{Free, Certain}
+use Rattle.outcome.specs.declared.Looked.{Looked}
+use Rattle.outcome.specs.declared.Looked.the-variants.{Seen, NotZ}
 use Rattle.run.specs.Run.{Run}
 use Rattle.run.specs.Frame.{Framed, framedLook}
 use Rattle.measure.specs.Measure.{Measured, measureBy}

@@ -24,6 +24,16 @@ pub struct FrameAnswer {
     pub verdict: usize,
 }
 
+fn refused(number: usize, place: usize) -> FrameAnswer
+    ensures { λ r. ⌜ r ≡ record { number = number; place = place; verdict = 0 } ⌝ }
+{
+    FrameAnswer {
+        number,
+        place,
+        verdict: 0,
+    }
+}
+
 // All operations on rows with even phases, then the errors after them: the frame is the final one. The number of measurements,
 // or refusal 10.
 fn carry_even(
@@ -105,11 +115,7 @@ fn run_in(
     let at = match carried {
         Advanced::Next(at) => at,
         Advanced::Refused { number, place } => {
-            return FrameAnswer {
-                number,
-                place,
-                verdict: 0,
-            };
+            return refused(number, place);
         }
     };
     let verdict = shift::finish(t, shifts, out, frame, d, n);
@@ -182,28 +188,16 @@ pub fn frame_run(
     let numbers = match reading {
         Reading::Accepted(numbers) => numbers,
         Reading::Refused { number, place } => {
-            return FrameAnswer {
-                number: entries::wide(number),
-                place,
-                verdict: 0,
-            };
+            return refused(entries::wide(number), place);
         }
     };
     let d = numbers.d;
     let n = numbers.n;
     if !is_roomy(t, results, shifts, frame, numbers.choices, n) {
-        return FrameAnswer {
-            number: 8,
-            place: 0,
-            verdict: 0,
-        };
+        return refused(8, 0);
     }
     if !validity::is_valid(t, d, n) {
-        return FrameAnswer {
-            number: 9,
-            place: 0,
-            verdict: 0,
-        };
+        return refused(9, 0);
     }
     let ops = book::part_of(book, 4);
     let errors = book::part_of(book, 10);

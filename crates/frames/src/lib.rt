@@ -50,6 +50,7 @@ fn cz_powers(v: &mut [u8], c: usize, t: usize, d: u8, n: usize)
     v[n + t] = z;
 }
 
+// Neighbours are written one after the other, since a store to the same cache line costs less.
 pub fn swap_powers(v: &mut [u8], c: usize, t: usize, n: usize)
     requires { ⌜ (c < n) × (t < n) × (2 * n ≤ length (now v)) ⌝ }
     ensures { λ _. ⌜ ((d : ℕ) → now (v .exit) ≡ gatePowers d n (Swap c t) (now (v .entry))) ⌝ }
@@ -59,8 +60,8 @@ pub fn swap_powers(v: &mut [u8], c: usize, t: usize, n: usize)
     let b = v[n + c];
     let z = v[n + t];
     v[c] = x;
-    v[n + c] = z;
     v[t] = a;
+    v[n + c] = z;
     v[n + t] = b;
 }
 

@@ -1,9 +1,8 @@
 // The six gates on a row with an even phase, and on every row of a tableau of such rows.
 ghost use mathlib.Core.Path.{_≡_};
 ghost use mathlib.Core.Bool.{true};
-ghost use Prim.Native.Nat.{_+_, _*_, _/_, _%_, _<_, _≤_};
-ghost use lib.ListN.{length, getD};
-ghost use Rattle.modular.specs.Modular.{neg};
+ghost use Prim.Native.Nat.{_+_, _*_, _/_, _<_, _≤_};
+ghost use lib.ListN.{length};
 ghost use Rattle.modular.specs.Dimension.{listed, inverse};
 ghost use Rattle.row.specs.Row.{Powers, Row, tab};
 ghost use Rattle.row.specs.Fill.{multipleAt};
@@ -17,38 +16,14 @@ ghost use Rattle.gate.specs.Even.{evenGateRow};
 ghost use Rattle.gate.specs.Tables.{factor, fraction, Tables};
 use operation::Operation;
 
-// Sums and multiples are read from two tables that are made once per gate. Some d and u below only say which tables they are.
-fn entry(table: &[u8], k: u8) -> u8
-    requires { ⌜ k < length (now table) ⌝ }
-    ensures { λ r. ⌜ r ≡ getD (now (table .entry)) k 0 ⌝ }
-{
-    table[k as usize]
-}
-
-// x + y, by the rests, which are the multiples of 1
-fn sum_of(rests: &[u8], d: u8, x: u8, y: u8) -> u8
-    requires { ⌜ (now rests ≡ tab (multipleAt d 1) 64) × (d ≤ 31) × (x < d) × (y < d) ⌝ }
-    ensures { λ r. ⌜ r ≡ (x + y) % d ⌝ }
-{
-    rests[x as usize + y as usize]
-}
-
-// x − y, in the same way
-fn difference_of(rests: &[u8], d: u8, x: u8, y: u8) -> u8
-    requires { ⌜ (now rests ≡ tab (multipleAt d 1) 64) × (d ≤ 31) × (x < d) × (y < d) ⌝ }
-    ensures { λ r. ⌜ r ≡ (x + neg d y) % d ⌝ }
-{
-    rests[x as usize + (d - y) as usize]
-}
-
 fn phase_gate_row(v: &mut [u8], q: usize, rests: &[u8], halves: &[u8], d: u8, n: usize)
     requires { ⌜ (q < n) × (d ≤ 31) × Row d n (now v) × (now rests ≡ tab (multipleAt d 1) 64) × (now halves ≡ tab (multipleAt d (d / 2)) 32) ⌝ }
     ensures { λ _. ⌜ now (v .exit) ≡ evenGateRow d n (PhaseGate q) (now (v .entry)) ⌝ }
 {
     let last = 2 * n;
     let a = v[q];
-    let b = sum_of(rests, d, v[n + q], a);
-    let s = sum_of(rests, d, v[last], entry(halves, a));
+    let b = tables::sum_of(rests, d, v[n + q], a);
+    let s = tables::sum_of(rests, d, v[last], tables::entry(halves, a));
     v[n + q] = b;
     v[last] = s;
 }
@@ -57,8 +32,8 @@ fn sum_row(v: &mut [u8], c: usize, t: usize, rests: &[u8], d: u8, n: usize)
     requires { ⌜ (c < n) × (t < n) × (d ≤ 31) × Powers d n (now v) × (now rests ≡ tab (multipleAt d 1) 64) ⌝ }
     ensures { λ _. ⌜ now (v .exit) ≡ gatePowers d n (Sum c t) (now (v .entry)) ⌝ }
 {
-    let x = sum_of(rests, d, v[t], v[c]);
-    let z = difference_of(rests, d, v[n + c], v[n + t]);
+    let x = tables::sum_of(rests, d, v[t], v[c]);
+    let z = tables::difference_of(rests, d, v[n + c], v[n + t]);
     v[n + c] = z;
     v[t] = x;
 }
@@ -67,8 +42,8 @@ fn cz_row(v: &mut [u8], c: usize, t: usize, rests: &[u8], d: u8, n: usize)
     requires { ⌜ (c < n) × (t < n) × (d ≤ 31) × Powers d n (now v) × (now rests ≡ tab (multipleAt d 1) 64) ⌝ }
     ensures { λ _. ⌜ now (v .exit) ≡ gatePowers d n (Cz c t) (now (v .entry)) ⌝ }
 {
-    let b = sum_of(rests, d, v[n + c], v[t]);
-    let z = sum_of(rests, d, v[n + t], v[c]);
+    let b = tables::sum_of(rests, d, v[n + c], v[t]);
+    let z = tables::sum_of(rests, d, v[n + t], v[c]);
     v[n + c] = b;
     v[n + t] = z;
 }
@@ -77,8 +52,8 @@ fn multiplier_row(v: &mut [u8], q: usize, u: u8, times: &[u8], fractions: &[u8],
     requires { ⌜ (q < n) × (d ≤ 31) × Powers d n (now v) × (now times ≡ tab (multipleAt d u) 64) × (now fractions ≡ tab (multipleAt d (inverse d u)) 32) ⌝ }
     ensures { λ _. ⌜ now (v .exit) ≡ gatePowers d n (Multiplier q u) (now (v .entry)) ⌝ }
 {
-    let a = entry(times, v[q]);
-    let b = entry(fractions, v[n + q]);
+    let a = tables::entry(times, v[q]);
+    let b = tables::entry(fractions, v[n + q]);
     v[q] = a;
     v[n + q] = b;
 }
@@ -161,17 +136,6 @@ fn fraction_of(operation: Operation, d: u8) -> u8
     }
 }
 
-// The multiples of x in place of zeros, which are those of 0 already.
-fn make_table(table: &mut [u8], x: u8, d: u8)
-    requires { ⌜ (3 ≤ d) × (d ≤ 31) × (x ≤ d) × (length (now table) ≤ 64) × (now table ≡ tab (multipleAt d 0) (length (now table))) ⌝ }
-    ensures { λ _. ⌜ now (table .exit) ≡ tab (multipleAt d x) (length (now (table .entry))) ⌝ }
-{
-    if x != 0 {
-        let m = modular::reciprocal(d);
-        row::multiples(table, x, d, m);
-    }
-}
-
 // The gate on every row, with room for its tables.
 pub fn gate_rows(t: &mut [u8], operation: Operation, d: u8, n: usize)
     requires { ⌜ (listed d ≡ true) × (n ≤ 64) × (allowed d n operation ≡ true) × Valid d n (now t) ⌝ }
@@ -179,7 +143,7 @@ pub fn gate_rows(t: &mut [u8], operation: Operation, d: u8, n: usize)
 {
     let mut times = [0u8; 64];
     let mut fractions = [0u8; 32];
-    make_table(&mut times, factor_of(operation), d);
-    make_table(&mut fractions, fraction_of(operation, d), d);
+    tables::make_table(&mut times, factor_of(operation), d);
+    tables::make_table(&mut fractions, fraction_of(operation, d), d);
     gate_all(t, operation, &times, &fractions, d, n);
 }

@@ -1,4 +1,2 @@
 -- What the proofs of several functions use.
-pub mod Combination
-pub mod Even
 pub mod Sums

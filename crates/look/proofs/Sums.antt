@@ -15,9 +15,9 @@ use Rattle.row.proofs.Fill.{tab-length, tab-get, tab-row}
 use Rattle.weyl.specs.Scalar.{none, scalar}
 use Rattle.tableau.specs.Tableau.{Tableau, row}
 use Rattle.tableau.proofs.Parts.{tableau-row}
-use Rattle.look.specs.Even.{evenCombination}
+use Rattle.outcome.specs.EvenLook.{evenCombination}
 use Rattle.look.specs.Sums.{weighedAt, weighed, Sums, gainAt, restAt}
-use Rattle.look.proofs.Even.{even-row}
+use Rattle.outcome.proofs.EvenLook.{even-row}
 
 abbrev pub zeros : ℕ → List ℕ
 zeros m = replicate m 0

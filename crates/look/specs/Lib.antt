@@ -1,3 +1,1 @@
-pub mod Look
-pub mod Even
 pub mod Sums

@@ -8,23 +8,13 @@ ghost use Rattle.row.specs.Row.{Row, tab};
 ghost use Rattle.tableau.specs.Tableau.{Tableau};
 ghost use Rattle.validity.specs.Validity.{Valid};
 ghost use Rattle.even.specs.Even.{plain};
-ghost use Rattle.look.specs.Look.{destabilizerPower, pivotOf, isZ, outcomeOf, look};
-ghost use Rattle.look.specs.Even.{evenCombination};
+ghost use Rattle.outcome.specs.Look.{destabilizerPower, pivotOf, isZ, outcomeOf, look};
+ghost use Rattle.outcome.specs.EvenLook.{evenCombination};
 ghost use Rattle.look.specs.Sums.{weighed, Sums, gainAt, restAt};
+use outcome::Look;
+use outcome::Looked;
 use row::wide;
 use search::Place;
-
-// Each measurement is either free, with its pivot stabilizer, or certain, with its outcome.
-pub enum Look {
-    Free { pivot: usize },
-    Certain { outcome: u8 },
-}
-
-// A look, or that a certain product isn't Z on the qudit. On a valid tableau there always is a look.
-pub enum Looked {
-    Seen(Look),
-    NotZ,
-}
 
 // The lowest stabilizer whose X power on q is not 0.
 fn pivot_of(t: &[u8], q: usize, n: usize) -> Place

@@ -17,11 +17,11 @@ use Rattle.validity.specs.Validity.{Valid}
 use Rattle.validity.proofs.Exactly.{valid-tableau}
 use Rattle.even.specs.Even.{plain}
 use Rattle.even.proofs.Plain.{valid-as-plain}
-use Rattle.look.specs.declared.Look.the-variants.{Free, Certain}
-use Rattle.look.specs.declared.Looked.{Looked}
-use Rattle.look.specs.declared.Looked.the-variants.{Seen, NotZ}
-use Rattle.look.specs.Look.{commutes, pivotOf, weighted, isZ, outcomeOf, lookBy, look}
-use Rattle.collapse.specs.Collapse.{collapse}
+use Rattle.outcome.specs.declared.Look.the-variants.{Free, Certain}
+use Rattle.outcome.specs.declared.Looked.{Looked}
+use Rattle.outcome.specs.declared.Looked.the-variants.{Seen, NotZ}
+use Rattle.outcome.specs.Look.{commutes, pivotOf, weighted, isZ, outcomeOf, lookBy, look}
+use Rattle.outcome.specs.Collapse.{collapse}
 use Rattle.measurement.proofs.Free.{collapse-keeps-valid}
 
 abbrev pub Fits : ℕ → ℕ → Looked → Type 0

@@ -6,11 +6,11 @@ ghost use lib.ListN.{length};
 ghost use Rattle.modular.specs.Dimension.{listed};
 ghost use Rattle.validity.specs.Validity.{Valid};
 ghost use Rattle.even.specs.Even.{plain};
-ghost use Rattle.look.specs.Look.{look};
+ghost use Rattle.outcome.specs.Look.{look};
 ghost use Rattle.run.specs.Run.{noted};
 ghost use Rattle.measure.specs.Measure.{measureBy};
-use look::Look;
-use look::Looked;
+use outcome::Look;
+use outcome::Looked;
 
 // Writes the result of measurement j: its outcome, then 0 certain or 1 free.
 fn note(results: &mut [u8], j: usize, outcome: u8, mark: u8)

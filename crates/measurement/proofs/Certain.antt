@@ -18,9 +18,9 @@ use Rattle.row.proofs.Fill.{row-power, row-phase}
 use Rattle.weyl.proofs.Reading.{bytes, reads-self, reads-cong, unique, neg-is}
 use Rattle.search.proofs.Search.{all-from}
 use Rattle.validity.specs.Validity.{Valid}
-use Rattle.look.specs.declared.Look.the-variants.{Certain}
-use Rattle.look.specs.declared.Looked.the-variants.{Seen, NotZ}
-use Rattle.look.specs.Look.{destabilizerPower, weighted, zByte, isZ, outcomeOf, look}
+use Rattle.outcome.specs.declared.Look.the-variants.{Certain}
+use Rattle.outcome.specs.declared.Looked.the-variants.{Seen, NotZ}
+use Rattle.outcome.specs.Look.{destabilizerPower, weighted, zByte, isZ, outcomeOf, look}
 use Rattle.measurement.specs.Stabilizers.{Stabilizes}
 use Rattle.measurement.specs.Measurement.{AlwaysSeen, CertainExactly, OneMember}
 use Rattle.keeping.proofs.View.{at-odd, invertible, row-of, basis, reads-z}

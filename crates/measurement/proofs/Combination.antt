@@ -15,7 +15,7 @@ use Rattle.row.specs.Row.{Row}
 use Rattle.weyl.proofs.Reading.{Reads, reads-row, unique, reads-cong, reads-of, reads-scalar, reads-product, reads-power}
 use Rattle.tableau.specs.Tableau.{row}
 use Rattle.validity.specs.Validity.{Valid}
-use Rattle.look.specs.Look.{destabilizerPower, combination, weighted}
+use Rattle.outcome.specs.Look.{destabilizerPower, combination, weighted}
 use Rattle.measurement.specs.Stabilizers.{Stabilizes}
 use Rattle.measurement.specs.Measurement.{AllDifferent}
 use Rattle.keeping.proofs.View.{rows, phases, at-odd, reads-at, basis}

@@ -19,11 +19,11 @@ use Rattle.weyl.proofs.Reading.{Reads, reads-self, reads-of, reads-product, rea
 use Rattle.tableau.specs.Tableau.{row}
 use Rattle.tableau.proofs.Parts.{on-at}
 use Rattle.validity.specs.Validity.{Valid}
-use Rattle.look.specs.declared.Look.the-variants.{Free}
-use Rattle.look.specs.declared.Looked.the-variants.{Seen}
-use Rattle.look.specs.Look.{look}
-use Rattle.collapse.specs.Collapse.{collapseRow, collapse}
-use Rattle.collapse.proofs.Collapsed.{collapsed, collapsed-keeps}
+use Rattle.outcome.specs.declared.Look.the-variants.{Free}
+use Rattle.outcome.specs.declared.Looked.the-variants.{Seen}
+use Rattle.outcome.specs.Look.{look}
+use Rattle.outcome.specs.Collapse.{collapseRow, collapse}
+use Rattle.outcome.proofs.Collapsed.{collapsed, collapsed-keeps}
 use Rattle.keeping.proofs.View.{rows, phases, at-odd, reads-at, basis, valid-on, reads-z}
 use Rattle.measurement.specs.Measurement.{CollapseKeepsValid}
 use Rattle.measurement.proofs.Combination.{stabs, signs}

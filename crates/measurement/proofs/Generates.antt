@@ -13,7 +13,7 @@ use Rattle.modular.specs.Modular.{neg}
 use Rattle.row.specs.Row.{Row, phaseOf, pairing}
 use Rattle.row.specs.Generators.{zWith}
 use Rattle.weyl.proofs.Reading.{bytes, Reads, means, reads-self, reads-row, reads-cong, reads-of, reads-reduced, reads-product, unique, neg-small, pairing-small, pairing-means}
-use Rattle.collapse.specs.Collapse.{collapse}
+use Rattle.outcome.specs.Collapse.{collapse}
 use Rattle.measurement.specs.Stabilizers.{Stabilizes, Generated, holds, times, Remaining}
 use Rattle.measurement.specs.Measurement.{CollapseGenerates}
 use Rattle.keeping.proofs.View.{at-odd, rows, basis, reads-z}

@@ -11,9 +11,9 @@ use Rattle.row.specs.Row.{phaseOf}
 use Rattle.search.specs.declared.Place.{Place}
 use Rattle.search.specs.declared.Place.the-variants.{At, Nowhere}
 use Rattle.search.proofs.Search.{found-fails, all-good}
-use Rattle.look.specs.declared.Look.the-variants.{Free, Certain}
-use Rattle.look.specs.declared.Looked.the-variants.{Seen, NotZ}
-use Rattle.look.specs.Look.{stabilizerPower, commutes, pivotOf, weighted, isZ, outcomeOf, lookBy, look}
+use Rattle.outcome.specs.declared.Look.the-variants.{Free, Certain}
+use Rattle.outcome.specs.declared.Looked.the-variants.{Seen, NotZ}
+use Rattle.outcome.specs.Look.{stabilizerPower, commutes, pivotOf, weighted, isZ, outcomeOf, lookBy, look}
 
 -- Stabilizer k is the lowest with an X power on q.
 pub record Pivot (n : ℕ) (t : List ℕ) (q k : ℕ) : Type 0 where

@@ -8,10 +8,10 @@ use Rattle.modular.specs.Modular.{neg}
 use Rattle.modular.specs.Dimension.{Dimension}
 use Rattle.row.specs.Generators.{zWith}
 use Rattle.validity.specs.Validity.{Valid}
-use Rattle.look.specs.declared.Look.the-variants.{Free, Certain}
-use Rattle.look.specs.declared.Looked.the-variants.{Seen, NotZ}
-use Rattle.look.specs.Look.{combination, look}
-use Rattle.collapse.specs.Collapse.{collapse}
+use Rattle.outcome.specs.declared.Look.the-variants.{Free, Certain}
+use Rattle.outcome.specs.declared.Looked.the-variants.{Seen, NotZ}
+use Rattle.outcome.specs.Look.{combination, look}
+use Rattle.outcome.specs.Collapse.{collapse}
 use Rattle.measurement.specs.Stabilizers.{Stabilizes, Generated, Remaining}
 
 -- The products of the stabilizer set are d^n: each settles its exponents.

@@ -6,7 +6,7 @@ use Prim.Native.Nat.{ℕ, _<_}
 use Rattle.modular.specs.Modular.{neg}
 use Rattle.row.specs.Row.{product, pairing}
 use Rattle.row.specs.Generators.{zWith}
-use Rattle.look.specs.Look.{combination}
+use Rattle.outcome.specs.Look.{combination}
 
 -- The stabilizer set is all d^n products of powers of stabilizer rows: v is one of them.
 pub record Stabilizes (d n : ℕ) (t v : List ℕ) : Type 0 where

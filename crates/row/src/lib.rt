@@ -72,7 +72,7 @@ fn small(k: usize) -> u16
 
 // A table of the multiples of x.
 pub fn multiples(z: &mut [u8], x: u8, d: u8, m: u16)
-    requires { ⌜ (length (now z) ≤ 64) × (x ≤ d) × Reciprocal d m ⌝ }
+    requires { ⌜ (length (now z) ≤ 96) × (x * length (now z) < 2048) × Reciprocal d m ⌝ }
     ensures { λ _. ⌜ now (z .exit) ≡ tab (multipleAt d x) (length (now (z .entry))) ⌝ }
 {
     for k in 0..z.len() {

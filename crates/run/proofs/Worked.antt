@@ -15,8 +15,8 @@ use Rattle.operation.specs.declared.WeylError.{WeylError}
 use Rattle.operation.specs.Gate.{gatePowers, gatePhase, gateRow}
 use Rattle.operation.specs.Error.{errorRow, errorFrame}
 use Rattle.circuit.specs.Circuit.{measured}
-use Rattle.look.specs.Look.{pivotOf, combination, weighted, isZ, outcomeOf, look}
-use Rattle.collapse.specs.Collapse.{collapseRow, collapse}
+use Rattle.outcome.specs.Look.{pivotOf, combination, weighted, isZ, outcomeOf, look}
+use Rattle.outcome.specs.Collapse.{collapseRow, collapse}
 use Rattle.run.specs.Run.{done, onward, noted}
 use Rattle.run.specs.Direct.{strike, directLook, directKind, directStrike, directStep, directEnd, directRun}
 use Rattle.run.specs.Frame.{Ended, noFrame, strikeFrame, shiftRow, verdictOf, framedLook, framedKind, framedStrike, framedStep, framedLeave, framedEnd, frameRunFrom, frameRun}

@@ -12,11 +12,11 @@ use Rattle.operation.specs.declared.WeylError.{WeylError}
 use Rattle.operation.specs.Gate.{withPhase, gateRows, gateFrame}
 use Rattle.operation.specs.Error.{errorFrame}
 use Rattle.circuit.specs.Circuit.{opAt, errAt, Kind, gate, measures, kind, measured}
-use Rattle.look.specs.declared.Look.the-variants.{Free, Certain}
-use Rattle.look.specs.declared.Looked.{Looked}
-use Rattle.look.specs.declared.Looked.the-variants.{Seen, NotZ}
-use Rattle.look.specs.Look.{look}
-use Rattle.collapse.specs.Collapse.{collapse}
+use Rattle.outcome.specs.declared.Look.the-variants.{Free, Certain}
+use Rattle.outcome.specs.declared.Looked.{Looked}
+use Rattle.outcome.specs.declared.Looked.the-variants.{Seen, NotZ}
+use Rattle.outcome.specs.Look.{look}
+use Rattle.outcome.specs.Collapse.{collapse}
 use Rattle.run.specs.Run.{Run, refused, done, andThen, onward, noted}
 use Rattle.run.specs.Direct.{State}
 

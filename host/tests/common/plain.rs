@@ -485,41 +485,66 @@ pub fn frame_run(
     }
     let mut rows = rows_of(n, tableau);
     let mut carried = identity(n);
+    let run = carry_all(&book, &mut rows, &mut carried, results);
+    let verdict = match run {
+        Ok(_) => shift_all(d, &carried, &mut rows, shifts),
+        Err(_) => 0,
+    };
+    tableau[..tableau_len(n)].copy_from_slice(&bytes_of(&rows));
+    match run {
+        Err(measurement) => (10, measurement, 0),
+        Ok(measurements) => {
+            // A frame has no phase: the last byte of its row is left off.
+            frame[..2 * n].copy_from_slice(&bytes_of(&[carried])[..2 * n]);
+            (0, measurements, verdict)
+        }
+    }
+}
+
+/// All operations and errors of a frame run; how many measurements there were, or the one whose
+/// product isn't Z.
+fn carry_all(
+    book: &Book,
+    rows: &mut [Row],
+    carried: &mut Row,
+    results: &mut [u8],
+) -> Result<usize, usize> {
+    let d = book.d;
     let mut done = 0;
     for k in 0..=book.operations.len() {
         for error in book.errors_at(k) {
-            carry(d, error, &mut carried);
+            carry(d, error, carried);
         }
         match book.operations.get(k) {
             None => {}
             Some(&Op::Measure(q)) => {
-                let Some([clean, mark]) = measure(d, n, &mut rows, q, book.choices[done]) else {
-                    tableau[..tableau_len(n)].copy_from_slice(&bytes_of(&rows));
-                    return (10, done, 0);
-                };
+                let result = measure(d, book.n, rows, q, book.choices[done]);
+                let [clean, mark] = result.ok_or(done)?;
                 results[2 * done] = ((i64::from(clean) + carried.a[q]) % d) as u8;
                 results[2 * done + 1] = mark;
                 done += 1;
             }
             Some(&op) => {
                 rows.iter_mut().for_each(|row| gate(d, op, row));
-                gate(d, op, &mut carried);
+                gate(d, op, carried);
             }
         }
     }
+    Ok(done)
+}
+
+/// Adds each row's shift to its phase. The verdict.
+fn shift_all(d: i64, carried: &Row, rows: &mut [Row], shifts: &mut [u8]) -> usize {
     let mut verdict = 0;
     for (row, shift) in rows.iter_mut().zip(shifts) {
-        let by = pairing(d, &carried, row);
+        let by = pairing(d, carried, row);
         row.r = (row.r + by) % d;
         *shift = by as u8;
         if by != 0 {
             verdict = 1;
         }
     }
-    tableau[..tableau_len(n)].copy_from_slice(&bytes_of(&rows));
-    // A frame has no phase: the last byte of its row is left off.
-    frame[..2 * n].copy_from_slice(&bytes_of(&[carried])[..2 * n]);
-    (0, done, verdict)
+    verdict
 }
 
 /// The error joins the frame.

@@ -1,7 +1,7 @@
 -- `collapse::collapse_by` meets its contract.
 -- Assumes nothing.
 use mathlib.Core.Path.{ap, _∙_}
-use Prim.Native.Nat.{_-_}
+use Prim.Native.Nat.{ℕ, _-_, _*_}
 use native.Mathlib.Nat.{le-of-lt}
 use native.Mathlib.Omega.{arith}
 use borrow.Author.Needs.{needs}
@@ -24,7 +24,11 @@ sub-multiples : tie.Need-sub-multiples
 sub-multiples c = rw (c .before .before .inverse .ensures) (le-of-lt (inverse-less _ _ (omega arith)))
 
 multiples-requires : tie.Need-multiples-requires
-multiples-requires c κs = search needs
+multiples-requires c κs =
+    let s = c .before .before .before .before .before .before .before .before in
+    let x = s .args .d - c .before .before .inverse .result in
+    let m = c .before .reciprocal .ensures in
+    (omega arith, omega (arith, m .high, ap (λ (z : ℕ). x * z) (s .pre .8)), m)
 
 powers-requires : tie.Need-powers-requires
 powers-requires c κs = search needs

@@ -4,7 +4,7 @@ use Prim.Native.Nat.{_+_}
 use native.Mathlib.Omega.{arith}
 use Rattle.modular.proofs.Listed.{dimension}
 use Rattle.tableau.proofs.Parts.{row-room, tableau-row}
-use Rattle.collapse.specs.Even.{evenCollapse}
+use Rattle.outcome.specs.EvenCollapse.{evenCollapse}
 use Rattle.collapse.proofs.Multiples.{multiples-none}
 use Rattle.collapse.proofs.collapse_in.Statement.{statement}
 use Rattle.collapse.proofs.collapse_in.Tie as tie

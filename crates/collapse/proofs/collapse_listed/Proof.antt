@@ -8,8 +8,8 @@ use lib.ListN.{length, getD, take}
 use borrow.Author.Needs.{needs}
 use Rattle.tableau.specs.Tableau.{Tableau, row}
 use Rattle.tableau.proofs.Parts.{row-room, tableau-row, tableau-put}
-use Rattle.collapse.specs.Even.{evenCollapseRow}
-use Rattle.collapse.proofs.Collapsed.{even-collapsed, even-collapsed-keeps}
+use Rattle.outcome.specs.EvenCollapse.{evenCollapseRow}
+use Rattle.outcome.proofs.Collapsed.{even-collapsed, even-collapsed-keeps}
 use Rattle.collapse.proofs.Sweep.{sweep, sweep-more, sweep-chosen, listed-less, unchanged}
 use Rattle.collapse.proofs.collapse_listed.Statement.{statement}
 use Rattle.collapse.proofs.collapse_listed.Tie as tie

@@ -4,7 +4,7 @@ use native.Mathlib.Omega.{arith}
 use borrow.Author.Needs.{needs}
 use borrow.Author.Tests.{eq-eqb, ne-eqb}
 use Rattle.row.specs.Generators.{zWith}
-use Rattle.collapse.specs.Even.{evenCollapseRow}
+use Rattle.outcome.specs.EvenCollapse.{evenCollapseRow}
 use Rattle.collapse.proofs.Multiples.{multiple-room, multiple-row}
 use Rattle.collapse.proofs.Exponents.{table-room, table-at, table-less}
 use Rattle.collapse.proofs.collapse_row.Statement.{statement}

@@ -29,7 +29,7 @@ part-error-row-end c = search needs
 
 error-row-requires : tie.Need-error-row-requires
 unfolding part
-error-row-requires c κs = let p = c .before .before .pre in (p .1, simp add-sub-cancel-left (p .2), p .3)
+error-row-requires c κs = let p = c .before .before .before .before .before .pre in (p .1, p .2, simp add-sub-cancel-left (p .3), p .4)
 
 same-length : tie.Need-same-length
 same-length c = search needs

@@ -9,7 +9,7 @@ use borrow.Author.Needs.{needs}
 use borrow.Author.Tests.{ltb-true}
 use Rattle.even.specs.Even.{plain}
 use Rattle.circuit.proofs.Gates.{is-gate}
-use Rattle.look.specs.Look.{look}
+use Rattle.outcome.specs.Look.{look}
 use Rattle.run.specs.Frame.{framedKind}
 use Rattle.frame_step.proofs.Looks.{left, left-look, untouched}
 use Rattle.frame_step.proofs.perform.Statement.{statement}

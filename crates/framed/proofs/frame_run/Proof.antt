@@ -22,17 +22,23 @@ enum-known-reading-2 c = search needs
 wide-requires : tie.Need-wide-requires
 wide-requires c κs = search needs
 
+refused-requires : tie.Need-refused-requires
+refused-requires c κs = tt
+
 returns : tie.Need-returns
 unfolding frameTold frameBook
 returns c =
-    let m = c .before .before in
-    rw (← m .before .before .read .ensures, m .reading2 .given .1, c .wide .ensures .0)
+    let m = c .before .before .before in
+    rw (c .refused .ensures, ← m .before .before .read .ensures, m .reading2 .given .1, c .before .wide .ensures .0)
 
 is-roomy-requires : tie.Need-is-roomy-requires
 is-roomy-requires c κs =
     let m = c .before .before .before .before .before in
     let a = m .before .before .before .before .before .before .before .before .args in
     handed (now (a .book)) (m .before .before .read .ensures) (m .reading .given .1) .qudits
+
+refused-requires-2 : tie.Need-refused-requires-2
+refused-requires-2 c κs = tt
 
 same-length : tie.Need-same-length
 same-length c = search needs
@@ -48,12 +54,13 @@ same-length-4 c = search needs
 
 returns-2 : tie.Need-returns-2
 returns-2 c =
-    let m = c .before .before .before .before .before .before .before in
+    let m = c .before .before .before .before .before .before .before .before in
     let a = m .before .before .before .before .before .before .before .before .args in
     let g = handed (now (a .book)) (m .before .before .read .ensures) (m .reading .given .1) in
-    short-book (now (a .book)) g
+    rw (c .refused2 .ensures)
+    (short-book (now (a .book)) g
     (record { tableau = now (a .t); results = now (a .results); shifts = now (a .shifts); frame = now (a .frame) })
-    (c .before .is-roomy .ensures) (c .if1 .taken)
+    (c .before .before .is-roomy .ensures) (c .before .if1 .taken))
 
 is-valid-requires : tie.Need-is-valid-requires
 is-valid-requires c κs =
@@ -67,6 +74,9 @@ is-valid-requires c κs =
     (record { tableau = now (a .t); results = now (a .results); shifts = now (a .shifts); frame = now (a .frame) })
     (o .is-roomy .ensures) (c .before .if1 .left) in
     (omega arith, dim .high, g .qudits, r .tableau)
+
+refused-requires-3 : tie.Need-refused-requires-3
+refused-requires-3 c κs = tt
 
 same-length-5 : tie.Need-same-length-5
 same-length-5 c = search needs
@@ -82,13 +92,14 @@ same-length-8 c = search needs
 
 returns-3 : tie.Need-returns-3
 returns-3 c =
-    let o = c .before .before .before .before in
+    let o = c .before .before .before .before .before in
     let m = o .before .before .before .before .before .before in
     let a = m .before .before .before .before .before .before .before .before .args in
     let g = handed (now (a .book)) (m .before .before .read .ensures) (m .reading .given .1) in
-    invalid-book (now (a .book)) g
+    rw (c .refused3 .ensures)
+    (invalid-book (now (a .book)) g
     (record { tableau = now (a .t); results = now (a .results); shifts = now (a .shifts); frame = now (a .frame) })
-    (o .is-roomy .ensures) (c .before .before .before .if1 .left) (c .before .is-valid .ensures) (c .if2 .taken)
+    (o .is-roomy .ensures) (c .before .before .before .before .if1 .left) (c .before .before .is-valid .ensures) (c .before .if2 .taken))
 
 part-of-requires : tie.Need-part-of-requires
 part-of-requires c κs =
@@ -167,14 +178,17 @@ frame-run-spec =
     enum-known-reading
     enum-known-reading-2
     wide-requires
+    refused-requires
     returns
     is-roomy-requires
+    refused-requires-2
     same-length
     same-length-2
     same-length-3
     same-length-4
     returns-2
     is-valid-requires
+    refused-requires-3
     same-length-5
     same-length-6
     same-length-7

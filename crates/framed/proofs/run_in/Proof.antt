@@ -34,6 +34,9 @@ enum-known-carried c = search needs
 enum-known-carried-2 : tie.Need-enum-known-carried-2
 enum-known-carried-2 c = search needs
 
+refused-requires : tie.Need-refused-requires
+refused-requires c κs = tt
+
 same-length : tie.Need-same-length
 same-length c = search needs
 
@@ -45,14 +48,15 @@ same-length-3 c = search needs
 
 returns : tie.Need-returns
 returns c =
-    let v = c .before .before .before .before .before .before .before .before .before in
+    let v = c .before .before .before .before .before .before .before .before .before .before in
     let s = v .before .before .before .before .before .before .before .before .before .before .before .before in
     let a = s .args in
     let ops = operationsOf (a .d) (a .n) (now (a .ops)) in
-    let after = rw (c .before .carried2 .given .1) at (v .carry .ensures) in
-    run-stops (a .d) (a .n) ops (errorsOf (now (a .errors))) (now (a .choices)) (measured ops (length ops))
+    let after = rw (c .before .before .carried2 .given .1) at (v .carry .ensures) in
+    rw (c .refused .ensures)
+    (run-stops (a .d) (a .n) ops (errorsOf (now (a .errors))) (now (a .choices)) (measured ops (length ops))
     (record { tableau = now (a .t); results = now (a .results); shifts = now (a .shifts); frame = now (a .out) }) (s .pre .4)
-    (after .0) (after .1)
+    (after .0) (after .1))
 
 finish-requires : tie.Need-finish-requires
 finish-requires c κs =
@@ -106,6 +110,7 @@ run-in-spec =
     carry-requires
     enum-known-carried
     enum-known-carried-2
+    refused-requires
     same-length
     same-length-2
     same-length-3

@@ -5,7 +5,8 @@ use borrow.Author.Needs.{needs}
 use Rattle.modular.proofs.Listed.{dimension}
 use Rattle.validity.proofs.Exactly.{valid-tableau}
 use Rattle.gate.proofs.Even.{rows-plain, rows-valid}
-use Rattle.gate.proofs.Tables.{zeros, factor-small, fraction-small}
+use Rattle.tables.proofs.Tables.{zeros}
+use Rattle.gate.proofs.Tables.{factor-small, fraction-small}
 use Rattle.gate.proofs.gate_rows.Statement.{statement}
 use Rattle.gate.proofs.gate_rows.Tie as tie
 
@@ -20,7 +21,7 @@ make-table-requires c κs =
     let s = c .before .before .before in
     let dim = dimension _ (s .pre .0) in
     let l = factor-small dim (s .args .n) (s .args .operation) (s .pre .2) in
-    (dim .low, dim .high, omega (arith, c .factor-of .ensures), omega arith, zeros _ 64)
+    (dim .low, dim .high, omega arith, omega (arith, dim .high, c .factor-of .ensures), zeros _ 64)
 
 slice-aggregate-make-table-2 : tie.Need-slice-aggregate-make-table-2
 slice-aggregate-make-table-2 c = search needs
@@ -35,7 +36,7 @@ make-table-requires-2 c κs =
     let s = c .before .before .before .before .before .before .before in
     let dim = dimension _ (s .pre .0) in
     let l = fraction-small dim (s .args .operation) in
-    (dim .low, dim .high, omega (arith, c .fraction-of .ensures), omega arith, zeros _ 32)
+    (dim .low, dim .high, omega arith, omega (arith, dim .high, c .fraction-of .ensures), zeros _ 32)
 
 slice-aggregate-gate-all : tie.Need-slice-aggregate-gate-all
 slice-aggregate-gate-all c = search needs

@@ -6,7 +6,7 @@ use native.Mathlib.Omega.{arith}
 use lib.ListN.{length-set}
 use borrow.Author.Needs.{needs}
 use Rattle.operation.specs.Gate.{gatePowers}
-use Rattle.gate.proofs.Tables.{table-length, table-times}
+use Rattle.tables.proofs.Tables.{table-length, table-times}
 use Rattle.gate.proofs.multiplier_row.Statement.{statement}
 use Rattle.gate.proofs.multiplier_row.Tie as tie
 

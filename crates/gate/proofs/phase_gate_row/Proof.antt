@@ -7,7 +7,7 @@ use lib.ListN.{getD, length-set}
 use borrow.Author.Needs.{needs}
 use Rattle.operation.specs.Gate.{gatePowers}
 use Rattle.gate.specs.Even.{evenPhase, evenGateRow}
-use Rattle.gate.proofs.Tables.{table-length, table-at}
+use Rattle.tables.proofs.Tables.{table-length, table-at}
 use Rattle.gate.proofs.phase_gate_row.Statement.{statement}
 use Rattle.gate.proofs.phase_gate_row.Tie as tie
 

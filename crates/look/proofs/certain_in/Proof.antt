@@ -2,7 +2,7 @@
 -- Assumes nothing.
 use mathlib.Core.Path.{_∙_}
 use native.Mathlib.Omega.{arith}
-use Rattle.look.proofs.Even.{even-row}
+use Rattle.outcome.proofs.EvenLook.{even-row}
 use Rattle.look.proofs.Sums.{below-31, weighed-length, rests-even}
 use Rattle.look.proofs.certain_in.Statement.{statement}
 use Rattle.look.proofs.certain_in.Tie as tie

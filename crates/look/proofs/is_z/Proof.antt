@@ -10,7 +10,7 @@ use borrow.Author.Needs.{needs}
 use borrow.Author.Tests.{eq-eqb, ne-eqb}
 use Rattle.search.specs.Search.{all}
 use Rattle.search.proofs.Search.{all-more, all-fails}
-use Rattle.look.specs.Look.{zByte, isZ}
+use Rattle.outcome.specs.Look.{zByte, isZ}
 use Rattle.look.proofs.is_z.Statement.{statement}
 use Rattle.look.proofs.is_z.Tie as tie
 

@@ -3,8 +3,8 @@
 use borrow.Author.Needs.{needs}
 use Rattle.modular.proofs.Listed.{dimension}
 use Rattle.validity.proofs.Exactly.{valid-tableau}
-use Rattle.look.specs.Look.{look}
-use Rattle.look.proofs.Even.{pivot-plain, weighted-plain}
+use Rattle.outcome.specs.Look.{look}
+use Rattle.outcome.proofs.EvenLook.{pivot-plain, weighted-plain}
 use Rattle.look.proofs.look_at.Statement.{statement}
 use Rattle.look.proofs.look_at.Tie as tie
 

@@ -5,7 +5,7 @@ use Prim.Native.Nat.{_*_}
 use native.Mathlib.Omega.{arith}
 use borrow.Author.Needs.{needs}
 use borrow.Author.Tests.{not-true, not-false}
-use Rattle.look.specs.Look.{outcomeOf}
+use Rattle.outcome.specs.Look.{outcomeOf}
 use Rattle.look.proofs.outcome_of.Statement.{statement}
 use Rattle.look.proofs.outcome_of.Tie as tie
 

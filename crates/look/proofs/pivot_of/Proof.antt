@@ -9,7 +9,7 @@ use Rattle.search.specs.declared.Place.the-variants.{Nowhere}
 use Rattle.search.specs.Search.{firstNot}
 use Rattle.search.proofs.Search.{none-yet, found}
 use Rattle.tableau.proofs.Parts.{row-room, row-at}
-use Rattle.look.specs.Look.{commutes, pivotOf}
+use Rattle.outcome.specs.Look.{commutes, pivotOf}
 use Rattle.look.proofs.pivot_of.Statement.{statement}
 use Rattle.look.proofs.pivot_of.Tie as tie
 

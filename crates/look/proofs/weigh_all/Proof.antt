@@ -5,7 +5,7 @@ use Prim.Native.Nat.{_-_, _≤_}
 use native.Mathlib.Nat.{le-antisymm}
 use native.Mathlib.Omega.{arith}
 use lib.ListN.{length}
-use Rattle.look.specs.Look.{destabilizerPower}
+use Rattle.outcome.specs.Look.{destabilizerPower}
 use Rattle.look.specs.Sums.{weighed}
 use Rattle.look.proofs.weigh_all.Statement.{statement}
 use Rattle.look.proofs.weigh_all.Tie as tie

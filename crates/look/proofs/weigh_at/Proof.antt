@@ -8,7 +8,7 @@ use native.Mathlib.Omega.{arith}
 use lib.ListN.{length, getD}
 use Rattle.tableau.specs.Tableau.{Tableau, part}
 use Rattle.tableau.proofs.Parts.{row-room, row-at, tableau-row}
-use Rattle.look.specs.Look.{destabilizerPower}
+use Rattle.outcome.specs.Look.{destabilizerPower}
 use Rattle.look.proofs.Sums.{weighed-more, weighed-less, weighed-sums}
 use Rattle.look.proofs.weigh_at.Statement.{statement}
 use Rattle.look.proofs.weigh_at.Tie as tie

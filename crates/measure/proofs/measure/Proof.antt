@@ -6,9 +6,9 @@ use denote.Ref.{now}
 use borrow.Author.Needs.{needs}
 use Rattle.modular.proofs.Listed.{dimension}
 use Rattle.even.specs.Even.{plain}
-use Rattle.look.specs.declared.Look.the-variants.{Free, Certain}
-use Rattle.look.specs.declared.Looked.the-variants.{Seen}
-use Rattle.look.specs.Look.{look}
+use Rattle.outcome.specs.declared.Look.the-variants.{Free, Certain}
+use Rattle.outcome.specs.declared.Looked.the-variants.{Seen}
+use Rattle.outcome.specs.Look.{look}
 use Rattle.measure.specs.Measure.{measureBy}
 use Rattle.measure.proofs.Seen.{look-fits, collapse-valid}
 use Rattle.measure.proofs.measure.Statement.{statement}

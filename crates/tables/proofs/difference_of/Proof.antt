@@ -1,11 +1,11 @@
--- `gate::difference_of` meets its contract.
+-- `tables::difference_of` meets its contract.
 -- Assumes nothing.
 use mathlib.Core.Path.{_∙_}
 use native.Mathlib.Omega.{arith}
 use borrow.Author.Needs.{needs}
-use Rattle.gate.proofs.Tables.{table-length, rest-at, rest-difference}
-use Rattle.gate.proofs.difference_of.Statement.{statement}
-use Rattle.gate.proofs.difference_of.Tie as tie
+use Rattle.tables.proofs.Tables.{table-length, rest-at, rest-difference}
+use Rattle.tables.proofs.difference_of.Statement.{statement}
+use Rattle.tables.proofs.difference_of.Tie as tie
 
 sub-result : tie.Need-sub-result
 sub-result c = search needs

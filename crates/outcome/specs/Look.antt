@@ -12,9 +12,9 @@ use Rattle.search.specs.declared.Place.{Place}
 use Rattle.search.specs.declared.Place.the-variants.{At, Nowhere}
 use Rattle.search.specs.Search.{all, firstNot}
 use Rattle.tableau.specs.Tableau.{row}
-use Rattle.look.specs.declared.Look.the-variants.{Free, Certain}
-use Rattle.look.specs.declared.Looked.{Looked}
-use Rattle.look.specs.declared.Looked.the-variants.{Seen, NotZ}
+use Rattle.outcome.specs.declared.Look.the-variants.{Free, Certain}
+use Rattle.outcome.specs.declared.Looked.{Looked}
+use Rattle.outcome.specs.declared.Looked.the-variants.{Seen, NotZ}
 
 -- the X power on q of destabilizer i, and of stabilizer i
 abbrev pub destabilizerPower : ℕ → List ℕ → ℕ → ℕ → ℕ

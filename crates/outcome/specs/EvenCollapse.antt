@@ -12,7 +12,7 @@ use Rattle.row.specs.Even.{added, scaled}
 use Rattle.tableau.specs.Tableau.{row, onRows}
 use Rattle.validity.specs.Validity.{Valid}
 use Rattle.even.specs.Even.{plain}
-use Rattle.collapse.specs.Collapse.{collapse}
+use Rattle.outcome.specs.Collapse.{collapse}
 
 unfoldable pub evenCollapseRow : ℕ → ℕ → ℕ → ℕ → ℕ → List ℕ → ℕ → List ℕ → List ℕ
 evenCollapseRow d n q k m pivot i v =

@@ -1,10 +1,10 @@
--- `gate::make_table` meets its contract.
+-- `tables::make_table` meets its contract.
 -- Assumes nothing.
 use mathlib.Core.Path.{_≡_}
 use native.Mathlib.Omega.{arith}
 use borrow.Author.Needs.{needs}
-use Rattle.gate.proofs.make_table.Statement.{statement}
-use Rattle.gate.proofs.make_table.Tie as tie
+use Rattle.tables.proofs.make_table.Statement.{statement}
+use Rattle.tables.proofs.make_table.Tie as tie
 
 reciprocal-requires : tie.Need-reciprocal-requires
 reciprocal-requires c κs = search needs

@@ -24,9 +24,9 @@ use Rattle.weyl.proofs.Even.{reads-turned, reads-scaled, added-product, scaled-
 use Rattle.validity.proofs.Exactly.{valid-tableau}
 use Rattle.even.specs.Even.{plain}
 use Rattle.even.proofs.Plain.{turned-power, plain-row, plain-by}
-use Rattle.collapse.specs.Collapse.{collapseRow, collapse}
-use Rattle.collapse.specs.Even.{evenCollapseRow, evenCollapse, EvenCollapse}
-use Rattle.collapse.proofs.Collapsed.{collapsed-keeps, even-collapsed-keeps}
+use Rattle.outcome.specs.Collapse.{collapseRow, collapse}
+use Rattle.outcome.specs.EvenCollapse.{evenCollapseRow, evenCollapse, EvenCollapse}
+use Rattle.outcome.proofs.Collapsed.{collapsed-keeps, even-collapsed-keeps}
 
 -- A row that commutes with w commutes with each power of it.
 commutes : (d n h : ℕ) (v w : List ℕ) → Row d n w → pairing d n v w ≡ 0 → pairing d n v (scaled d n h w) ≡ 0

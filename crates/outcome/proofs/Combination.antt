@@ -11,7 +11,7 @@ use Rattle.row.proofs.Laws.{product-row}
 use Rattle.weyl.specs.Scalar.{none, scalar}
 use Rattle.search.proofs.Search.{first-same}
 use Rattle.tableau.specs.Tableau.{row}
-use Rattle.look.specs.Look.{stabilizerPower, commutes, pivotOf, combination}
+use Rattle.outcome.specs.Look.{stabilizerPower, commutes, pivotOf, combination}
 
 module _ (d n : ℕ) (t : List ℕ) (h : ℕ → ℕ) where
   pub combination-row : 0 < d → (k : ℕ) → Row d n (combination d n t h k)

@@ -1,4 +1,4 @@
--- The laws that specs/Even.antt states, and that the look sees the same on a tableau with even phases.
+-- The laws that specs/EvenLook.antt states, and that the look sees the same on a tableau with even phases.
 -- Assumes nothing.
 use mathlib.Core.Path.{_≡_, refl, sym, ap, ap₂, _∙_}
 use mathlib.Core.Bool.{Bool, true, false}
@@ -27,9 +27,9 @@ use Rattle.validity.specs.Validity.{Valid}
 use Rattle.validity.proofs.Exactly.{valid-tableau}
 use Rattle.even.specs.Even.{plain}
 use Rattle.even.proofs.Plain.{turned-power, plain-row}
-use Rattle.look.specs.Look.{destabilizerPower, pivotOf, combination, weighted, zByte, isZ, outcomeOf}
-use Rattle.look.specs.Even.{evenCombination, EvenCombination, EvenOutcome}
-use Rattle.look.proofs.Combination.{combination-same, pivot-same}
+use Rattle.outcome.specs.Look.{destabilizerPower, pivotOf, combination, weighted, zByte, isZ, outcomeOf}
+use Rattle.outcome.specs.EvenLook.{evenCombination, EvenCombination, EvenOutcome}
+use Rattle.outcome.proofs.Combination.{combination-same, pivot-same}
 
 -- ω^0 has no powers, so its two phases are one.
 scalar-plain : (d n : ℕ) → 0 < d → plainRow d n (scalar n 0) ≡ scalar n 0

@@ -8,7 +8,7 @@ use Rattle.weyl.specs.Scalar.{scalar}
 use Rattle.tableau.specs.Tableau.{row}
 use Rattle.validity.specs.Validity.{Valid}
 use Rattle.even.specs.Even.{plain}
-use Rattle.look.specs.Look.{combination, outcomeOf}
+use Rattle.outcome.specs.Look.{combination, outcomeOf}
 
 -- the product of the first k stabilizers, stabilizer i to the power h i: they commute, so bytes add
 unfoldable pub evenCombination : ℕ → ℕ → List ℕ → (ℕ → ℕ) → ℕ → List ℕ

@@ -1,10 +1,10 @@
--- `gate::sum_of` meets its contract.
+-- `tables::sum_of` meets its contract.
 -- Assumes nothing.
 use native.Mathlib.Omega.{arith}
 use borrow.Author.Needs.{needs}
-use Rattle.gate.proofs.Tables.{table-length, rest-at}
-use Rattle.gate.proofs.sum_of.Statement.{statement}
-use Rattle.gate.proofs.sum_of.Tie as tie
+use Rattle.tables.proofs.Tables.{table-length, rest-at}
+use Rattle.tables.proofs.sum_of.Statement.{statement}
+use Rattle.tables.proofs.sum_of.Tie as tie
 
 add-result : tie.Need-add-result
 add-result c = search needs

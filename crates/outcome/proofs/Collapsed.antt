@@ -10,8 +10,8 @@ use Rattle.row.specs.Row.{Row}
 use Rattle.row.specs.Generators.{zWith}
 use Rattle.row.proofs.Laws.{product-row, power-row, added-row, scaled-row, unit-row}
 use Rattle.tableau.proofs.Parts.{Keeps}
-use Rattle.collapse.specs.Collapse.{collapseRow}
-use Rattle.collapse.specs.Even.{evenCollapseRow}
+use Rattle.outcome.specs.Collapse.{collapseRow}
+use Rattle.outcome.specs.EvenCollapse.{evenCollapseRow}
 
 either : {d n : ℕ} {v w : List ℕ} (b : Bool) → Row d n v → Row d n w → Row d n (cond b v w)
 either true p q = p

@@ -1,0 +1,4 @@
+pub mod Look
+pub mod Collapse
+pub mod EvenLook
+pub mod EvenCollapse

@@ -1,0 +1,2 @@
+-- What other proofs use.
+pub mod Tables
