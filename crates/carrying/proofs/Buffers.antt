@@ -5,8 +5,7 @@ use mathlib.Core.List.{List}
 use Prim.Native.Nat.{ℕ, zero, suc, _+_, _*_, _≤_, _<_}
 use native.Mathlib.Nat.{le-refl}
 use native.Mathlib.Omega.{arith}
-use lib.ListN.{length, getD, length-replicate, getD-replicate}
-use Rattle.row.specs.Row.{Powers}
+use lib.ListN.{length, getD, getD-replicate}
 use Rattle.operation.specs.declared.Operation.{Operation}
 use Rattle.operation.specs.declared.WeylError.{WeylError}
 use Rattle.circuit.specs.Circuit.{opAt, Kind, gate, measures, kind, tallyKind, measured}
@@ -20,6 +19,7 @@ use Rattle.run.specs.Run.{Run, refused, done, andThen, onward}
 use Rattle.run.specs.Direct.{State, directLook, directKind, directStrike, directStep, directEnd, directRun}
 use Rattle.run.specs.Frame.{Ended, noFrame, frameRun}
 use Rattle.run.specs.Raised.{raised}
+use Rattle.run.proofs.Frames.{no-frame}
 use Rattle.run.proofs.Results.{measured-before}
 use Rattle.carrying.specs.Carrying.{Agree, Carried}
 use Rattle.carrying.proofs.Rows.{shifted-none}
@@ -99,16 +99,13 @@ agree-twin (stopped j t u out out') s = let e = s .struck-is in let z : _≡_ {A
 no-powers : (n s : ℕ) → s < 2 * n → getD (noFrame n) s 0 ≡ 0
 no-powers n s l = getD-replicate (2 * n) s 0 0 l
 
-no-frame : (d n : ℕ) → 0 < d → Powers d n (noFrame n)
-no-frame d n low =
-    record { room = omega (arith, length-replicate {A = ℕ} (2 * n) 0); below = λ s l. omega (arith, no-powers n s l) }
-
 pub carried : Carried
 unfolding frameRun
 carried d n dim ops errors choices ac t t' results results' shifts frame ok room' same r r' =
     let none = shifted-none d n (noFrame n) t (valid-tableau d n t ok) (no-powers n) in
+    let empty = no-frame d n (omega (arith, dim .low)) in
     agree-twin
     (twin-run d n (omega (arith, dim .low)) ops errors (raised d n ops errors (noFrame n) choices)
     (going t t' results results' (window-of n (ok .room) room' (λ i l. sym (same i l))) (told-none Equal (measured ops (length ops)) r r')))
     (rw none at
-    (carried-from d n dim ops errors choices (noFrame n) ac (no-frame d n (omega (arith, dim .low))) (length-replicate {A = ℕ} (2 * n) 0) t results shifts frame ok))
+    (carried-from d n dim ops errors choices (noFrame n) ac (empty .powers) (empty .len) t results shifts frame ok))

@@ -4,7 +4,7 @@ use mathlib.Core.Path.{_≡_, refl, sym, ap, _∙_}
 use mathlib.Core.Bool.{Bool, true, false, cond}
 use mathlib.Core.List.{List}
 use Prim.Native.Nat.{ℕ, zero, suc, _+_, _*_, _/_, _%_, _≤_, _<_}
-use native.Mathlib.Nat.{mod-lt, div-add-mod', div-lt-iff-lt-mul, le-refl}
+use native.Mathlib.Nat.{mod-lt, div-add-mod', div-lt-iff-lt-mul}
 use native.Mathlib.Omega.{arith}
 use lib.Dec.{eqb}
 use lib.ListN.{length, getD}
@@ -21,8 +21,8 @@ use Rattle.operation.proofs.Error.{error-keeps}
 use Rattle.circuit.specs.Circuit.{errAt}
 use Rattle.search.specs.declared.Place.{Place}
 use Rattle.search.specs.declared.Place.the-variants.{At, Nowhere}
-use Rattle.outcome.specs.Look.{destabilizerPower, pivotOf, combination, weighted, outcomeOf, lookBy, look}
-use Rattle.outcome.proofs.Combination.{pivot-same}
+use Rattle.outcome.specs.Look.{destabilizerPower, pivotOf, weighted, outcomeOf, lookBy, look}
+use Rattle.outcome.proofs.Combination.{combination-same, pivot-same}
 use Rattle.outcome.specs.Collapse.{collapseRow, collapse}
 use Rattle.outcome.proofs.Collapsed.{collapsed-keeps}
 use Rattle.run.specs.Direct.{strike}
@@ -72,12 +72,6 @@ module _ (n : ℕ) {t u : List ℕ} where
     window-collapse d q k m low l =
         rw (w .rows (n + k) (omega arith)) (window-on (collapseRow d n q k m (row n u (n + k))) (collapsed-keeps d n q k m (row n u (n + k)) low))
 
-    combination-same : (d : ℕ) (g g' : ℕ → ℕ) (k : ℕ) → k ≤ n → ((i : ℕ) → i < k → g i ≡ g' i) → combination d n t g k ≡ combination d n u g' k
-    unfolding combination
-    combination-same d g g' zero l e = refl
-    combination-same d g g' (suc k) l e =
-        rw (combination-same d g g' k (omega arith) (λ i x. e i (omega arith)), e k (omega arith), w .rows (n + k) (omega arith))
-
     pub look-same : (d q : ℕ) → look d n t q ≡ look d n u q
     unfolding look weighted
     look-same d q =
@@ -90,7 +84,7 @@ module _ (n : ℕ) {t u : List ℕ} where
         by (At k) = refl
         by Nowhere =
             ap (outcomeOf d n q)
-            (combination-same d (destabilizerPower n t q) (destabilizerPower n u q) n (le-refl n) (λ i l. power i (omega arith)))
+            (combination-same d n t u (destabilizerPower n t q) (destabilizerPower n u q) n (λ i l. power i (omega arith)) (λ i l. w .rows (n + i) (omega arith)))
 
 pub window-strike : (d n : ℕ) (errors : List WeylError) (k : ℕ) {t u : List ℕ} → Window n t u → (j : ℕ) → Window n (strike d n errors k t j) (strike d n errors k u j)
 unfolding strike

@@ -159,4 +159,4 @@ unfolding weighted
 weighted-plain d n dim t valid q l =
     even-outcome d n dim t valid (destabilizerPower n t q) q l
     ∙ ap (outcomeOf d n q)
-    (sym (combination-same d n (plain d n t) _ _ n (powers-plain d n t (valid .room) q l)))
+    (sym (combination-same d n (plain d n t) (plain d n t) _ _ n (powers-plain d n t (valid .room) q l) (λ i k. refl)))

@@ -5,8 +5,9 @@ use mathlib.Core.Bool.{Bool, true, false, cond}
 use mathlib.Core.List.{List}
 use Prim.Native.Nat.{ℕ, zero, suc, _+_, _*_, _<_}
 use native.Mathlib.Nat.{mod-lt}
+use native.Mathlib.Omega.{arith}
 use lib.Dec.{eqb}
-use lib.ListN.{length, length-set}
+use lib.ListN.{length, length-set, length-replicate, getD-replicate}
 use Rattle.row.specs.Row.{Powers, Row}
 use Rattle.row.proofs.Laws.{powers-of}
 use Rattle.tableau.specs.Tableau.{every}
@@ -20,7 +21,7 @@ use Rattle.operation.proofs.Stores.{row-phase}
 use Rattle.operation.proofs.Gate.{gate-powers-length, gate-powers}
 use Rattle.operation.proofs.Error.{error-frame-length, error-powers}
 use Rattle.circuit.specs.Circuit.{errAt}
-use Rattle.run.specs.Frame.{strikeFrame, shiftRow}
+use Rattle.run.specs.Frame.{noFrame, strikeFrame, shiftRow}
 
 -- a frame of n qudits
 pub record Frame (d n : ℕ) (F : List ℕ) : Type 0 where
@@ -28,6 +29,16 @@ pub record Frame (d n : ℕ) (F : List ℕ) : Type 0 where
   pub len : length F ≡ 2 * n
 
 module _ (d n : ℕ) (low : 0 < d) where
+  pub no-frame : Frame d n (noFrame n)
+  no-frame =
+      record {
+        powers = record { room = omega (arith, none); below = λ s l. omega (arith, getD-replicate {A = ℕ} (2 * n) s 0 0 l) };
+        len = none;
+      }
+    where
+      none : length (noFrame n) ≡ 2 * n
+      none = length-replicate (2 * n) 0
+
   pub error-frame : (e : WeylError) (F : List ℕ) → Frame d n F → Frame d n (errorFrame d n e F)
   error-frame e F f = record { powers = error-powers d n e F low (f .powers); len = error-frame-length d n e F ∙ f .len }
 

@@ -1,14 +1,14 @@
 -- `framed::run_in` meets its contract.
 -- Assumes nothing.
 use mathlib.Core.Path.{ap, _∙_}
-use Prim.Native.Nat.{ℕ, _*_}
 use native.Mathlib.Omega.{arith}
 use denote.Ref.{now}
-use lib.ListN.{length, length-replicate, getD-replicate}
+use lib.ListN.{length}
 use borrow.Author.Needs.{needs}
 use Rattle.modular.proofs.Listed.{dimension}
 use Rattle.circuit.specs.Circuit.{measured}
 use Rattle.book.specs.Decoded.{operationsOf, errorsOf}
+use Rattle.run.proofs.Frames.{no-frame}
 use Rattle.framed.proofs.Ends.{run-stops, run-ends}
 use Rattle.framed.proofs.run_in.Statement.{statement}
 use Rattle.framed.proofs.run_in.Tie as tie
@@ -17,16 +17,7 @@ carry-requires : tie.Need-carry-requires
 carry-requires c κs =
     let s = c .before .before .before .before .before .before .before .before .before .before .before in
     let dim = dimension (s .args .d) (s .pre .0 .dimension) in
-    let m = 2 * s .args .n in (
-      s .pre .0,
-      s .pre .1,
-      rw (s .pre .4)
-          (record {
-            room = omega (arith, length-replicate {A = ℕ} m 0);
-            below = λ i l. omega (arith, getD-replicate {A = ℕ} m i 0 0 l);
-          }),
-      s .pre .5,
-    )
+    (s .pre .0, s .pre .1, rw (s .pre .4) (no-frame (s .args .d) (s .args .n) (omega arith) .powers), s .pre .5)
 
 enum-known-carried : tie.Need-enum-known-carried
 enum-known-carried c = search needs
@@ -71,7 +62,7 @@ finish-requires c κs =
       s .pre .3,
       after .2,
       after .3,
-      after .4 ∙ ap length (s .pre .4) ∙ length-replicate {A = ℕ} (2 * s .args .n) 0,
+      after .4 ∙ ap length (s .pre .4) ∙ no-frame (s .args .d) (s .args .n) (omega arith) .len,
     )
 
 same-length-4 : tie.Need-same-length-4
