@@ -108,6 +108,6 @@ module _ (d n : ℕ) (ops : List Operation) (errors : List WeylError) (choices F
 
 pub frame-is-clean : FrameIsClean
 unfolding directRun frameRunFrom
-frame-is-clean d n dim ops errors choices F ac powers len t results shifts frame ok room =
+frame-is-clean d n dim ops errors choices F ac t results shifts frame ok room =
     plus-end d n ops errors choices F shifts frame (direct-ends d n dim ops [] choices (without-errors ac) (record { rows = t; results = results }) ok)
     (plus-onward d n ops errors choices F t results results (told-none (Shifted d (resultShifts d n ops errors 0 F (length ops))) _ room room) (length ops) (le-refl (length ops)))

@@ -79,7 +79,7 @@ pub record CleanPlus (d n : ℕ) (ops : List Operation) (errors : List WeylError
 
 abbrev pub FrameIsClean : Type 0
 FrameIsClean = (d n : ℕ) → Dimension d → (ops : List Operation) (errors : List WeylError) (choices F : List ℕ)
-    → Accepted d n ops errors choices → Powers d n F → length F ≡ 2 * n
+    → Accepted d n ops errors choices
     → (t results shifts frame : List ℕ)
     → Valid d n t
     → 2 * measured ops (length ops) ≤ length results
