@@ -1,7 +1,7 @@
 // Even phases, taken at a run's entry and given back at its exit.
 ghost use mathlib.Core.Path.{_≡_};
 ghost use mathlib.Core.Bool.{true};
-ghost use Prim.Native.Nat.{_+_, _*_, _<_, _≤_};
+ghost use Prim.Native.Nat.{_+_, _*_, _≤_};
 ghost use lib.ListN.{length};
 ghost use Rattle.modular.specs.Dimension.{listed};
 ghost use Rattle.row.specs.Row.{Row};

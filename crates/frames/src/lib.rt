@@ -50,7 +50,7 @@ fn cz_powers(v: &mut [u8], c: usize, t: usize, d: u8, n: usize)
     v[n + t] = z;
 }
 
-// Neighbours are written one after the other, since a store to the same cache line costs less.
+// The two X powers are written together, then the two Z powers: stores near each other cost less.
 pub fn swap_powers(v: &mut [u8], c: usize, t: usize, n: usize)
     requires { ⌜ (c < n) × (t < n) × (2 * n ≤ length (now v)) ⌝ }
     ensures { λ _. ⌜ ((d : ℕ) → now (v .exit) ≡ gatePowers d n (Swap c t) (now (v .entry))) ⌝ }

@@ -1,6 +1,6 @@
 // Product and pairing of rows, and what they are made of.
 ghost use mathlib.Core.Path.{_≡_};
-ghost use Prim.Native.Nat.{_+_, _-_, _*_, _%_, _<_, _≤_};
+ghost use Prim.Native.Nat.{_+_, _*_, _%_, _<_, _≤_};
 ghost use lib.ListN.{length};
 ghost use Rattle.modular.specs.Modular.{neg, Reciprocal, WideReciprocal};
 ghost use Rattle.row.specs.Row.{Powers, Row, tab, rowOf, dot, sumAt, pairing};

@@ -13,7 +13,7 @@ pub fn entry(table: &[u8], k: u8) -> u8
     table[k as usize]
 }
 
-// x + y, by the rests, which are the multiples of 1. Here and below d only says which table it is.
+// x + y, by the rests, which are the multiples of 1. In both sums d only says which table it is.
 pub fn sum_of(rests: &[u8], d: u8, x: u8, y: u8) -> u8
     requires { ⌜ (now rests ≡ tab (multipleAt d 1) 64) × (d ≤ 31) × (x < d) × (y < d) ⌝ }
     ensures { λ r. ⌜ r ≡ (x + y) % d ⌝ }

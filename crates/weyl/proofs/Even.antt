@@ -7,7 +7,7 @@ use native.Mathlib.Nat.{mod-lt}
 use native.Mathlib.Omega.{arith}
 use Rattle.congruence.proofs.Congruence.{Cong, cong-eq, cong-sym, cong-trans, cong-add, cong-mul-left, cong-mod}
 use Rattle.symplectic.proofs.Triangle.{tri, tri-double}
-use Rattle.symplectic.proofs.Pairing.{half, half-add-left, half-add-right, half-mul-left, half-mul-right, pair, pair→half}
+use Rattle.symplectic.proofs.Pairing.{half, half-add-left, half-add-right, half-mul-left, half-mul-right, pair→half}
 use Rattle.modular.specs.Dimension.{Dimension}
 use Rattle.row.specs.Row.{Row, phaseOf, product, power, pairing}
 use Rattle.row.specs.Even.{turned, plainRow, added, scaled}
