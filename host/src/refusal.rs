@@ -5,8 +5,8 @@ use std::fmt;
 
 /// Why a call refused: one variant for each listed number, with the place where it says one.
 ///
-/// A refusal leaves every lent buffer as it was. The only exception is [`Refusal::NotZ`], which is
-/// proved never to come for a tableau that passes the test, and every run tests its tableau first.
+/// A refusal leaves every lent buffer as it was. All tests come before the work, and the work itself
+/// never refuses.
 ///
 /// ```
 /// let refusal = cagvost::test_tableau(&[], 9, 1).unwrap_err();
@@ -47,16 +47,10 @@ pub enum Refusal {
     ShortBuffer,
     /// 9: the lent tableau is not a valid one for this dimension and number of qudits.
     InvalidTableau,
-    /// 10: the rows contradict a measurement that ought to be certain. It leaves the tableau as
-    /// before that measurement and the results so far written; all else is unchanged.
-    NotZ {
-        /// The measurement, counted from 0.
-        measurement: usize,
-    },
 }
 
 impl Refusal {
-    /// The listed number, from 1 to 10.
+    /// The listed number, from 1 to 9.
     pub fn number(self) -> usize {
         match self {
             Refusal::BookHeader => 1,
@@ -68,7 +62,6 @@ impl Refusal {
             Refusal::Choice { .. } => 7,
             Refusal::ShortBuffer => 8,
             Refusal::InvalidTableau => 9,
-            Refusal::NotZ { .. } => 10,
         }
     }
 
@@ -79,7 +72,6 @@ impl Refusal {
             Refusal::Operation { index }
             | Refusal::ErrorEntry { index }
             | Refusal::Choice { index } => index,
-            Refusal::NotZ { measurement } => measurement,
             _ => 0,
         }
     }
@@ -113,9 +105,6 @@ impl Refusal {
             Refusal::InvalidTableau => {
                 "the tableau is not valid: a byte is not below the dimension, or two rows do not pair as they must"
             }
-            Refusal::NotZ { .. } => {
-                "the rows contradict this measurement, which ought to be certain"
-            }
         }
     }
 
@@ -134,7 +123,6 @@ impl Refusal {
             (7, index) => Refusal::Choice { index },
             (8, 0) => Refusal::ShortBuffer,
             (9, 0) => Refusal::InvalidTableau,
-            (10, measurement) => Refusal::NotZ { measurement },
             _ => panic!("the linked library is of another version: it refused {number} at {place}"),
         }
     }
@@ -155,8 +143,8 @@ mod tests {
 
     #[test]
     fn each_listed_number_keeps_its_number_and_place() {
-        for number in 1..=10 {
-            let place = if matches!(number, 4..=7 | 10) { 2 } else { 0 };
+        for number in 1..=9 {
+            let place = if matches!(number, 4..=7) { 2 } else { 0 };
             let refusal = Refusal::listed(number, place);
             assert_eq!((refusal.number(), refusal.place()), (number, place));
             let text = refusal.to_string();
@@ -167,7 +155,7 @@ mod tests {
     #[test]
     #[should_panic(expected = "another version")]
     fn an_unlisted_number_is_no_refusal() {
-        Refusal::listed(11, 0);
+        Refusal::listed(10, 0);
     }
 
     #[test]

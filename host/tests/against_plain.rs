@@ -2,9 +2,10 @@
 
 mod common;
 
-use cagvost::book::{Book, DIMENSIONS, MAX_ERRORS, MAX_OPERATIONS};
+use cagvost::book::{Book, DIMENSIONS, MAX_ERRORS, MAX_OPERATIONS, Operation};
 use common::plain::{self, Row};
-use common::{Rng, Run, Shape, UNWRITTEN, draw_book, draw_tableau, run_both, with_tail};
+use common::{Rng, Run, Shape, UNWRITTEN, run_both};
+use common::{draw_book, draw_gate, draw_tableau, with_tail};
 
 /// How often each kind of measurement was seen.
 #[derive(Default)]
@@ -139,6 +140,66 @@ fn full_books_of_measurements_alone() {
             measure_one_in: 1,
         };
         compare(&mut rng, shape, &mut Seen::default());
+    }
+}
+
+// ---- Certain measurements, whose product the reference holds to be Z
+
+/// A gate that sends levels to levels, with what it does to them.
+fn draw_level_gate(rng: &mut Rng, d: u8, levels: &mut [u8]) -> Operation {
+    loop {
+        let gate = draw_gate(rng, d, levels.len() as u8);
+        let at = |q: u8| usize::from(q);
+        let modulo = |x: usize| (x % at(d)) as u8;
+        match gate {
+            Operation::PhaseGate { .. } | Operation::Cz { .. } => {}
+            Operation::Sum { c, t } => {
+                levels[at(t)] = modulo(at(levels[at(t)]) + at(levels[at(c)]));
+            }
+            Operation::Swap { c, t } => levels.swap(at(c), at(t)),
+            Operation::Multiplier { q, u } => levels[at(q)] = modulo(at(levels[at(q)]) * at(u)),
+            _ => continue,
+        }
+        return gate;
+    }
+}
+
+/// Measures every qudit of a drawn tableau, so that each has a level; sends the levels to others by
+/// gates and X errors, and measures again: each outcome is certain, and the level that it must be.
+/// The products of those measurements run over many stabilizers.
+fn measure_levels(rng: &mut Rng, d: u8, n: u8) {
+    let count = usize::from(n);
+    let tableau = draw_tableau(rng, d, n);
+    let mut book = Book::new(d, n);
+    for q in 0..n {
+        book.measure(q, rng.byte_below(d));
+    }
+    let first = run_both(&book.to_bytes(), &tableau, &vec![UNWRITTEN; 2 * count]);
+    let mut levels: Vec<u8> = first.results.chunks(2).map(|result| result[0]).collect();
+    let mut book = Book::new(d, n);
+    for _ in 0..4 * count {
+        let gate = draw_level_gate(rng, d, &mut levels);
+        let (q, p, s) = (rng.byte_below(n), rng.byte_below(d), rng.byte_below(d));
+        book.operation(gate).strike(q, p, s);
+        let level = &mut levels[usize::from(q)];
+        *level = ((u16::from(*level) + u16::from(p)) % u16::from(d)) as u8;
+    }
+    for q in 0..n {
+        book.measure(q, rng.byte_below(d));
+    }
+    let run = run_both(&book.to_bytes(), &first.tableau, &vec![UNWRITTEN; 2 * count]);
+    let expected: Vec<u8> = levels.iter().flat_map(|&level| [level, 0]).collect();
+    assert_eq!(run.results, expected, "d {d} n {n}");
+}
+
+/// Levels are a reference of another make that reaches all 64 qudits.
+#[test]
+fn certain_outcomes_are_the_levels() {
+    let mut rng = Rng(10);
+    for n in 1..=64 {
+        for d in [3, DIMENSIONS[usize::from(n) % 10]] {
+            measure_levels(&mut rng, d, n);
+        }
     }
 }
 

@@ -5,7 +5,7 @@ mod common;
 
 use cagvost::book::{Book, DIMENSIONS, MAX_ERRORS, MAX_OPERATIONS, Operation, WeylError};
 use cagvost::{FrameRun, Verdict};
-use common::{PAPER_BOOK, Rng, Shape, UNWRITTEN, plain, run_both};
+use common::{PAPER_BOOK, Rng, Shape, UNWRITTEN, plain, run_both, test_of};
 use common::{draw_book, draw_tableau, with_tail, zero_tableau};
 
 /// The four buffers of a frame run.
@@ -71,7 +71,8 @@ impl Buffers {
     }
 }
 
-/// A frame run by both, which must agree in each number and byte; a refusal must leave every byte.
+/// A frame run by both, which must agree in each number and byte. A refusal must leave every byte,
+/// and what a run leaves must pass the test.
 fn carry_both(book: &[u8], before: &Buffers) -> ((usize, usize, usize), Buffers) {
     let lent = book.to_vec();
     let (mut left, mut expected) = (before.clone(), before.clone());
@@ -81,6 +82,8 @@ fn carry_both(book: &[u8], before: &Buffers) -> ((usize, usize, usize), Buffers)
     assert!(lent == book, "the book was written: {book:02x?}");
     if told.0 != 0 {
         assert!(left == *before, "{told:?} changed a buffer");
+    } else {
+        assert_eq!(test_of(book, &left.tableau), (0, 0), "after {book:02x?}");
     }
     (told, left)
 }

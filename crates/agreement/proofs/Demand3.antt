@@ -14,13 +14,12 @@ use Rattle.body.specs.Body.{accepted}
 use Rattle.book.specs.Book.{readBook}
 use Rattle.book.specs.Decoded.{opsIn, errorsIn, choicesIn, measurementsIn}
 use Rattle.book.proofs.Meaning.{accepted-means}
-use Rattle.run.specs.Run.{done}
-use Rattle.run.specs.Direct.{State, directRun}
-use Rattle.run.specs.Frame.{Ended, frameRun}
+use Rattle.run.specs.Direct.{directRun}
+use Rattle.run.specs.Frame.{frameRun}
 use Rattle.carrying.proofs.Window.{Window, window-of, window-bytes}
 use Rattle.carrying.proofs.Buffers.{carried}
-use Rattle.direct.specs.DirectBook.{directTold, directBook}
-use Rattle.framed.specs.FrameBook.{frameRoomy, frameTold, frameBook}
+use Rattle.direct.specs.DirectBook.{ended, directTold, directBook}
+use Rattle.framed.specs.FrameBook.{frameRoomy, frameEnded, frameTold, frameBook}
 use Rattle.agreement.specs.Agreement.{raisedBook, Demand3}
 use Rattle.agreement.proofs.Second.{second-accepted}
 
@@ -34,26 +33,21 @@ valid-window {d} {n} {t} {u} w v =
       others = λ i j l h a b. rw (← w .rows i l, ← w .rows j h) (v .others i j l h a b);
     }
 
--- what is left of an accepted book's run, with room and on a valid tableau, that is not refused by 10
+-- what is left of an accepted book's run, with room and on a valid tableau
 module _ {d n operations errors choices : ℕ} (s : List ℕ) (e : readBook s ≡ accepted d n operations errors choices)
     (t results : List ℕ) (room : 2 * n * (2 * n + 1) ≤ length t) (ok : valid d n t ≡ true)
     (r : 2 * measurementsIn s d n ≤ length results) where
-  direct-left : (st : State) → directRun d n (opsIn s d n) (errorsIn s) (choicesIn s) (record { rows = t; results = results }) ≡ done st
-      → directBook s t results ≡ record { number = 0; place = measurementsIn s d n; tableau = st .rows; results = st .results }
+  direct-left : directBook s t results
+      ≡ ended (measurementsIn s d n) (directRun d n (opsIn s d n) (errorsIn s) (choicesIn s) (record { rows = t; results = results }))
   unfolding directBook directTold
-  direct-left st run = rw (e, le-leb (2 * n * (2 * n + 1)) (length t) room, le-leb (2 * measurementsIn s d n) (length results) r, ok, run)
+  direct-left = rw (e, le-leb (2 * n * (2 * n + 1)) (length t) room, le-leb (2 * measurementsIn s d n) (length results) r, ok)
 
-  frame-left : (shifts frame : List ℕ) → 2 * n ≤ length shifts → 2 * n ≤ length frame → (end : Ended)
-      → frameRun d n (opsIn s d n) (errorsIn s) (choicesIn s) (record { rows = t; results = results }) shifts frame ≡ done end
+  frame-left : (shifts frame : List ℕ) → 2 * n ≤ length shifts → 2 * n ≤ length frame
       → frameBook s (record { tableau = t; results = results; shifts = shifts; frame = frame })
-      ≡ record {
-        number = 0;
-        place = measurementsIn s d n;
-        verdict = end .verdict;
-        left = record { tableau = end .rows; results = end .results; shifts = end .shifts; frame = end .frame };
-      }
+      ≡ frameEnded (measurementsIn s d n)
+      (frameRun d n (opsIn s d n) (errorsIn s) (choicesIn s) (record { rows = t; results = results }) shifts frame)
   unfolding frameBook frameTold frameRoomy
-  frame-left shifts frame rs rf end run =
+  frame-left shifts frame rs rf =
       rw (
         e,
         le-leb (2 * n * (2 * n + 1)) (length t) room,
@@ -61,7 +55,6 @@ module _ {d n operations errors choices : ℕ} (s : List ℕ) (e : readBook s �
         le-leb (2 * n) (length shifts) rs,
         le-leb (2 * n) (length frame) rf,
         ok,
-        run,
       )
 
 pub demand3 : Demand3
@@ -73,15 +66,16 @@ demand3 s d n operations errors choices e t t' results results' shifts frame roo
     let second = second-accepted s d n operations errors choices e in
     let a = carried d n dim (opsIn s d n) (errorsIn s) (choicesIn s) (m .lists) t t' results results' shifts frame v room' same r r' in
     rw (
-      direct-left (raisedBook d n s) (second .accepts) t' results' room' (valid-exactly d n dim t' room' .1 v') (rw (second .same-operations) r')
-          (a .struck)
-          (rw (second .same-operations, second .same-errors, second .raised-choices) (a .struck-is)),
-      frame-left s e t results room ok r shifts frame rs rf (a .carried) (a .carried-is),
+      direct-left (raisedBook d n s) (second .accepts) t' results' room' (valid-exactly d n dim t' room' .1 v') (rw (second .same-operations) r'),
+      second .same-operations,
+      second .same-errors,
+      second .raised-choices,
+      frame-left s e t results room ok r shifts frame rs rf,
     )
     (record {
       struck-ends = refl;
       carried-ends = refl;
-      struck-count = rw (second .same-operations);
+      struck-count = refl;
       carried-count = refl;
       results = a .results;
       tableau = a .tableau;

@@ -1,6 +1,6 @@
 -- A direct run depends on the needed bytes of its buffers alone: demand 3 with a set of buffers for each run.
 -- Assumes nothing.
-use mathlib.Core.Path.{_≡_, refl, sym, ap, _∙_}
+use mathlib.Core.Path.{_≡_, refl, sym, _∙_}
 use mathlib.Core.List.{List}
 use Prim.Native.Nat.{ℕ, zero, suc, _+_, _*_, _≤_, _<_}
 use native.Mathlib.Nat.{le-refl}
@@ -10,13 +10,12 @@ use Rattle.operation.specs.declared.Operation.{Operation}
 use Rattle.operation.specs.declared.WeylError.{WeylError}
 use Rattle.circuit.specs.Circuit.{opAt, Kind, gate, measures, kind, tallyKind, measured}
 use Rattle.validity.proofs.Exactly.{valid-tableau}
+use Rattle.outcome.specs.declared.Look.{Look}
 use Rattle.outcome.specs.declared.Look.the-variants.{Free, Certain}
-use Rattle.outcome.specs.declared.Looked.{Looked}
-use Rattle.outcome.specs.declared.Looked.the-variants.{Seen, NotZ}
 use Rattle.outcome.specs.Look.{look}
 use Rattle.measurement.proofs.Looks.{look-free}
-use Rattle.run.specs.Run.{Run, refused, done, andThen, onward}
-use Rattle.run.specs.Direct.{State, directLook, directKind, directStrike, directStep, directEnd, directRun}
+use Rattle.run.specs.Run.{onward}
+use Rattle.run.specs.Direct.{State, directLook, directKind, directStrike, directStep, directRun}
 use Rattle.run.specs.Frame.{Ended, noFrame, frameRun}
 use Rattle.run.specs.Raised.{raised}
 use Rattle.run.proofs.Frames.{no-frame}
@@ -28,10 +27,9 @@ use Rattle.carrying.proofs.Told.{Told, told-none, told-more, Equal, tol
 use Rattle.carrying.proofs.Window.{Window, window-of, window-bytes, window-gate, window-collapse, look-same, window-strike}
 
 -- two runs over two sets of buffers, after m measurements of `total`
-pub data Twin (n total m : ℕ) : Run State → Run State → Type 0 where
-  going : (t u out out' : List ℕ) → Window n t u → Told Equal total m out out'
-      → Twin n total m (done (record { rows = t; results = out })) (done (record { rows = u; results = out' }))
-  stopped : (j : ℕ) (t u out out' : List ℕ) → Twin n total m (refused j t out) (refused j u out')
+pub record Twin (n total m : ℕ) (A B : State) : Type 0 where
+  pub rows : Window n (A .rows) (B .rows)
+  pub results : Told Equal total m (A .results) (B .results)
 
 module _ (d n : ℕ) (low : 1 < d) (ops : List Operation) (errors : List WeylError) (choices : List ℕ) where
   abbrev total : ℕ
@@ -44,7 +42,7 @@ module _ (d n : ℕ) (low : 1 < d) (ops : List Operation) (errors : List WeylErr
   unfolding directKind directLook
   twin-kind k l t u out out' w a gate e =
       let q : measured ops k + 0 ≡ measured ops k = omega arith in
-      rw q (going _ _ _ _ (window-gate n w d (opAt ops k)) a)
+      rw q (record { rows = window-gate n w d (opAt ops k); results = a })
   twin-kind k l t u out out' w a (measures q) e = rw (← look-same n w d q) (by (look d n t q) refl)
     where
       j : ℕ
@@ -53,48 +51,35 @@ module _ (d n : ℕ) (low : 1 < d) (ops : List Operation) (errors : List WeylErr
       lj : j < total
       lj = measured-before ops k (length ops) q l e
 
-      by : (x : Looked) → look d n t q ≡ x
+      by : (x : Look) → look d n t q ≡ x
           → Twin n total (j + 1) (directLook d n choices j q (record { rows = t; results = out }) x) (directLook d n choices j q (record { rows = u; results = out' }) x)
-      by (Seen (Free i)) y = going _ _ _ _ (window-collapse n w d q i _ low (look-free d n t q i y .number)) (told-more Equal total j _ _ 1 lj refl a)
-      by (Seen (Certain outcome)) y = going _ _ _ _ w (told-more Equal total j _ _ 0 lj refl a)
-      by NotZ y = stopped _ _ _ _ _
+      by (Free i) y = record { rows = window-collapse n w d q i _ low (look-free d n t q i y .number); results = told-more Equal total j _ _ 1 lj refl a }
+      by (Certain outcome) y = record { rows = w; results = told-more Equal total j _ _ 0 lj refl a }
 
-  twin-step : (k : ℕ) → k < length ops → {A B : Run State} → Twin n total (measured ops k) A B
-      → Twin n total (measured ops (suc k)) (andThen A (directStep d n ops errors choices k)) (andThen B (directStep d n ops errors choices k))
+  twin-step : (k : ℕ) → k < length ops → {A B : State} → Twin n total (measured ops k) A B
+      → Twin n total (measured ops (suc k)) (directStep d n ops errors choices k A) (directStep d n ops errors choices k B)
   unfolding measured directStep directStrike
-  twin-step k l (going t u out out' w a) = twin-kind k l _ _ out out' (window-strike d n errors k w (length errors)) a (kind (opAt ops k)) refl
-  twin-step k l (stopped j t u out out') = stopped j t u out out'
+  twin-step k l a = twin-kind k l _ _ _ _ (window-strike d n errors k (a .rows) (length errors)) (a .results) (kind (opAt ops k)) refl
 
-  twin-onward : {st st' : State} → Twin n total 0 (done st) (done st') → (count : ℕ) → count ≤ length ops
-      → Twin n total (measured ops count) (onward (directStep d n ops errors choices) 0 st count) (onward (directStep d n ops errors choices) 0 st' count)
+  twin-onward : {A B : State} → Twin n total 0 A B → (count : ℕ) → count ≤ length ops
+      → Twin n total (measured ops count) (onward (directStep d n ops errors choices) 0 A count) (onward (directStep d n ops errors choices) 0 B count)
   unfolding onward measured
   twin-onward start zero l = start
   twin-onward start (suc m) l = let q : 0 + m ≡ m = omega arith in rw q (twin-step m l (twin-onward start m (omega arith)))
 
-  twin-end : {m : ℕ} {A B : Run State} → Twin n total m A B
-      → Twin n total m (andThen A (directEnd d n ops errors choices)) (andThen B (directEnd d n ops errors choices))
-  unfolding directEnd directStrike
-  twin-end (going t u out out' w a) = going _ _ out out' (window-strike d n errors (length ops) w (length errors)) a
-  twin-end (stopped j t u out out') = stopped j t u out out'
-
-  pub twin-run : {st st' : State} → Twin n total 0 (done st) (done st')
-      → Twin n total total (directRun d n ops errors choices st) (directRun d n ops errors choices st')
-  unfolding directRun
-  twin-run start = twin-end (twin-onward start (length ops) (le-refl (length ops)))
+  pub twin-run : {A B : State} → Twin n total 0 A B → Twin n total total (directRun d n ops errors choices A) (directRun d n ops errors choices B)
+  unfolding directRun directStrike
+  twin-run start =
+      let a = twin-onward start (length ops) (le-refl (length ops)) in
+      record { rows = window-strike d n errors (length ops) (a .rows) (length errors); results = a .results }
 
 -- What agrees with a run agrees with its twin.
-agree-twin : {n total : ℕ} {A A' : Run State} {B : Run Ended} → Twin n total total A A' → Agree n total A B → Agree n total A' B
-agree-twin {n} (going t u out out' w a) s =
-    let e : _≡_ {A = State} (record { rows = t; results = out }) (s .struck) = let z = s .struck-is in cc in
+agree-twin : {n total : ℕ} {A A' : State} {B : Ended} → Twin n total total A A' → Agree n total A B → Agree n total A' B
+agree-twin {n} a s =
     record {
-      struck = _;
-      carried = s .carried;
-      struck-is = refl;
-      carried-is = s .carried-is;
-      tableau = λ i l. sym (window-bytes n w i l) ∙ ap (λ (st : State). getD (st .rows) i 0) e ∙ s .tableau i l;
-      results = λ i l. told-bytes a i l ∙ ap (λ (st : State). getD (st .results) i 0) e ∙ s .results i l;
+      tableau = λ i l. sym (window-bytes n (a .rows) i l) ∙ s .tableau i l;
+      results = λ i l. told-bytes (a .results) i l ∙ s .results i l;
     }
-agree-twin (stopped j t u out out') s = let e = s .struck-is in let z : _≡_ {A = ℕ} 0 1 = cc in absurd (omega arith)
 
 no-powers : (n s : ℕ) → s < 2 * n → getD (noFrame n) s 0 ≡ 0
 no-powers n s l = getD-replicate (2 * n) s 0 0 l
@@ -106,6 +91,6 @@ carried d n dim ops errors choices ac t t' results results' shifts frame ok room
     let empty = no-frame d n (omega (arith, dim .low)) in
     agree-twin
     (twin-run d n (omega (arith, dim .low)) ops errors (raised d n ops errors (noFrame n) choices)
-    (going t t' results results' (window-of n (ok .room) room' (λ i l. sym (same i l))) (told-none Equal (measured ops (length ops)) r r')))
+    (record { rows = window-of n (ok .room) room' (λ i l. sym (same i l)); results = told-none Equal (measured ops (length ops)) r r' }))
     (rw none at
     (carried-from d n dim ops errors choices (noFrame n) ac (empty .powers) (empty .len) t results shifts frame ok))

@@ -1,4 +1,4 @@
--- The frame run is the clean run, without errors, with the carried frame added to rows and results.
+-- The frame run is the clean run, without errors, with the carried frame added to rows and results. So it keeps validity as well.
 -- Assumes nothing.
 use mathlib.Core.Path.{_≡_, refl, sym, ap}
 use mathlib.Core.List.{List, []}
@@ -10,30 +10,30 @@ use Rattle.row.specs.Row.{xOf}
 use Rattle.operation.specs.declared.Operation.{Operation}
 use Rattle.operation.specs.declared.WeylError.{WeylError}
 use Rattle.circuit.specs.Circuit.{opAt, Kind, gate, measures, kind, tallyKind, measured}
+use Rattle.outcome.specs.declared.Look.{Look}
 use Rattle.outcome.specs.declared.Look.the-variants.{Free, Certain}
-use Rattle.outcome.specs.declared.Looked.{Looked}
-use Rattle.outcome.specs.declared.Looked.the-variants.{Seen, NotZ}
 use Rattle.outcome.specs.Look.{look}
-use Rattle.run.specs.Run.{Run, refused, done, andThen, onward, noted}
-use Rattle.run.specs.Direct.{State, strike, directLook, directKind, directStrike, directStep, directEnd, directRun}
-use Rattle.run.specs.Frame.{Framed, framedLook, framedKind, framedStrike, framedStep, framedLeave, framedEnd, frameRunFrom}
+use Rattle.run.specs.Run.{onward, noted}
+use Rattle.run.specs.Direct.{State, strike, directLook, directKind, directStrike, directStep, directRun}
+use Rattle.run.specs.Frame.{Framed, framedLook, framedKind, framedStrike, framedStep, framedAll, framedLeave, frameRunFrom}
 use Rattle.run.specs.Raised.{carryBy, struckFrame, carried, resultShifts}
 use Rattle.run.proofs.Results.{measured-before}
 use Rattle.run.proofs.Shifts.{shift-of}
-use Rattle.carrying.specs.Carrying.{Sound, CleanPlus, FrameIsClean}
+use Rattle.carrying.specs.Carrying.{FrameKeepsValid, CleanPlus, FrameIsClean}
+use Rattle.carrying.proofs.Looks.{shift-keeps-valid}
 use Rattle.carrying.proofs.Books.{without-errors}
-use Rattle.carrying.proofs.Sound.{direct-ends}
+use Rattle.carrying.proofs.Sound.{run-keeps-valid}
 use Rattle.carrying.proofs.Told.{Told, told-none, told-more}
 
 -- the reported outcome y of measurement j, from the clean one
 abbrev Shifted : ℕ → List ℕ → ℕ → ℕ → ℕ → Type 0
 Shifted d shifts j x y = y ≡ (x + getD shifts j 0) % d
 
--- the same rows, the frame G, and the results of m measurements of `total` told; or a refusal of the same measurement
-data Plus (d : ℕ) (shifts : List ℕ) (total m : ℕ) (G : List ℕ) : Run State → Run Framed → Type 0 where
-  going : (t out out' : List ℕ) → Told (Shifted d shifts) total m out out'
-      → Plus d shifts total m G (done (record { rows = t; results = out })) (done (record { rows = t; results = out'; frame = G }))
-  stopped : (j : ℕ) (t out out' : List ℕ) → Plus d shifts total m G (refused j t out) (refused j t out')
+-- the same rows, the frame G, and the results of m measurements of `total` told
+record Plus (d : ℕ) (shifts : List ℕ) (total m : ℕ) (G : List ℕ) (A : State) (B : Framed) : Type 0 where
+  rows : B .rows ≡ A .rows
+  frame : B .frame ≡ G
+  results : Told (Shifted d shifts) total m (A .results) (B .results)
 
 module _ (d n : ℕ) (ops : List Operation) (errors : List WeylError) (choices F : List ℕ) where
   abbrev total : ℕ
@@ -54,7 +54,7 @@ module _ (d n : ℕ) (ops : List Operation) (errors : List WeylError) (choices F
       (directKind d n choices (measured ops k) (record { rows = t; results = out }) (opAt ops k) x)
       (framedKind d n choices (measured ops k) (record { rows = t; results = out'; frame = struck k }) (opAt ops k) x)
   unfolding directKind framedKind directLook framedLook carryBy
-  plus-kind k l t out out' a gate e = let q : measured ops k + 0 ≡ measured ops k = omega arith in rw q (going _ _ _ a)
+  plus-kind k l t out out' a gate e = let q : measured ops k + 0 ≡ measured ops k = omega arith in rw q (record { rows = refl; frame = refl; results = a })
   plus-kind k l t out out' a (measures q) e = by (look d n t q)
     where
       j : ℕ
@@ -66,48 +66,50 @@ module _ (d n : ℕ) (ops : List Operation) (errors : List WeylError) (choices F
           (ap (λ (z : ℕ). (x + z) % d) (sym (shift-of d n ops errors F k q l e)))
           a
 
-      by : (x : Looked) → Plus d shifts total (j + 1) (struck k) (directLook d n choices j q (record { rows = t; results = out }) x)
+      by : (x : Look) → Plus d shifts total (j + 1) (struck k) (directLook d n choices j q (record { rows = t; results = out }) x)
           (framedLook d n choices j q (record { rows = t; results = out'; frame = struck k }) x)
-      by (Seen (Free i)) = going _ _ _ (more (getD choices j 0) 1)
-      by (Seen (Certain outcome)) = going _ _ _ (more outcome 0)
-      by NotZ = stopped _ _ _ _
+      by (Free i) = record { rows = refl; frame = refl; results = more (getD choices j 0) 1 }
+      by (Certain outcome) = record { rows = refl; frame = refl; results = more outcome 0 }
 
-  plus-step : (k : ℕ) → k < length ops → {A : Run State} {B : Run Framed} → Plus d shifts total (measured ops k) (reached k) A B
+  plus-step : (k : ℕ) → k < length ops → (A : State) (B : Framed) → Plus d shifts total (measured ops k) (reached k) A B
       → Plus d shifts total (measured ops (suc k)) (carryBy d n ops errors k (kind (opAt ops k)) (struck k))
-      (andThen A (directStep d n ops [] choices k))
-      (andThen B (framedStep d n ops errors choices k))
+      (directStep d n ops [] choices k A)
+      (framedStep d n ops errors choices k B)
   unfolding measured directStep framedStep directStrike framedStrike strike struckFrame
-  plus-step k l (going t out out' a) = plus-kind k l t out out' a (kind (opAt ops k)) refl
-  plus-step k l (stopped j t out out') = stopped j t out out'
+  plus-step k l A B a =
+      rw (a .rows, a .frame) (plus-kind k l (A .rows) (A .results) (B .results) (a .results) (kind (opAt ops k)) refl)
 
-  plus-onward : (t out out' : List ℕ) → Told (Shifted d shifts) total 0 out out' → (count : ℕ) → count ≤ length ops
+  plus-onward : (A : State) (B : Framed) → Plus d shifts total 0 F A B → (count : ℕ) → count ≤ length ops
       → Plus d shifts total (measured ops count) (reached count)
-      (onward (directStep d n ops [] choices) 0 (record { rows = t; results = out }) count)
-      (onward (framedStep d n ops errors choices) 0 (record { rows = t; results = out'; frame = F }) count)
+      (onward (directStep d n ops [] choices) 0 A count)
+      (onward (framedStep d n ops errors choices) 0 B count)
   unfolding onward measured carried
-  plus-onward t out out' a zero l = going t out out' a
-  plus-onward t out out' a (suc m) l = let q : 0 + m ≡ m = omega arith in rw q (plus-step m l (plus-onward t out out' a m (omega arith)))
+  plus-onward A B a zero l = a
+  plus-onward A B a (suc m) l = let q : 0 + m ≡ m = omega arith in rw q (plus-step m l _ _ (plus-onward A B a m (omega arith)))
 
-  -- the errors after all operations; the clean run was not refused
-  plus-end : (shiftBuffer frame : List ℕ) {A : Run State} {B : Run Framed} → Sound d n (andThen A (directEnd d n ops [] choices))
-      → Plus d shifts total total (reached (length ops)) A B
-      → CleanPlus d n ops errors F frame (andThen A (directEnd d n ops [] choices)) (andThen B (framedEnd d n ops errors choices shiftBuffer frame))
-  unfolding directEnd framedEnd framedLeave directStrike framedStrike strike struckFrame
-  plus-end shiftBuffer frame s (going t out out' a) =
+  -- the errors after all operations
+  plus-end : (shiftBuffer frame : List ℕ) (A : State) (B : Framed) → Plus d shifts total total (reached (length ops)) A B
+      → CleanPlus d n ops errors F frame (directStrike d n ops [] choices (length ops) A)
+      (framedLeave d n ops errors choices shiftBuffer frame (framedStrike d n ops errors choices (length ops) B))
+  unfolding framedLeave directStrike framedStrike strike struckFrame
+  plus-end shiftBuffer frame A B a =
       record {
-        clean = _;
-        framed = _;
-        clean-is = refl;
-        framed-is = refl;
-        final = refl;
-        rows = refl;
-        outcomes = a .outcome;
-        marks = a .mark;
+        final = rw (a .frame);
+        rows = rw (a .rows, a .frame);
+        outcomes = a .results .outcome;
+        marks = a .results .mark;
       }
-  plus-end shiftBuffer frame s (stopped j t out out') = let e = s .is in let z : _≡_ {A = ℕ} 0 1 = cc in absurd (omega arith)
 
 pub frame-is-clean : FrameIsClean
-unfolding directRun frameRunFrom
-frame-is-clean d n dim ops errors choices F ac t results shifts frame ok room =
-    plus-end d n ops errors choices F shifts frame (direct-ends d n dim ops [] choices (without-errors ac) (record { rows = t; results = results }) ok)
-    (plus-onward d n ops errors choices F t results results (told-none (Shifted d (resultShifts d n ops errors 0 F (length ops))) _ room room) (length ops) (le-refl (length ops)))
+unfolding directRun frameRunFrom framedAll
+frame-is-clean d n ops errors choices F st shifts frame room =
+    plus-end d n ops errors choices F shifts frame _ _
+    (plus-onward d n ops errors choices F st (record { rows = st .rows; results = st .results; frame = F })
+    (record { rows = refl; frame = refl; results = told-none (Shifted d (resultShifts d n ops errors 0 F (length ops))) _ room room })
+    (length ops)
+    (le-refl (length ops)))
+
+pub frame-keeps-valid : FrameKeepsValid
+frame-keeps-valid d n dim ops errors choices F ac st ok room shifts frame =
+    rw (frame-is-clean d n ops errors choices F st shifts frame room .rows)
+    (shift-keeps-valid d n dim _ _ (run-keeps-valid d n dim ops [] choices (without-errors ac) st ok))

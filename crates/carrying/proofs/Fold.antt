@@ -13,13 +13,13 @@ use Rattle.operation.specs.declared.WeylError.{WeylError}
 use Rattle.circuit.specs.Circuit.{opAt, Kind, gate, measures, kind, measured, Accepted}
 use Rattle.validity.specs.Validity.{Valid}
 use Rattle.validity.proofs.Exactly.{valid-tableau}
-use Rattle.outcome.specs.declared.Looked.{Looked}
+use Rattle.outcome.specs.declared.Look.{Look}
 use Rattle.outcome.specs.Look.{look}
 use Rattle.keeping.proofs.Keeping.{gate-keeps-valid}
 use Rattle.measurement.proofs.Free.{collapse-keeps-valid}
-use Rattle.run.specs.Run.{Run, done, andThen, onward}
-use Rattle.run.specs.Direct.{State, directLook, directKind, directStrike, directStep, directEnd, directRun}
-use Rattle.run.specs.Frame.{Framed, shiftRows, framedLook, framedKind, framedStrike, framedStep, framedLeave, framedEnd, frameRunFrom}
+use Rattle.run.specs.Run.{onward}
+use Rattle.run.specs.Direct.{State, directLook, directKind, directStrike, directStep, directRun}
+use Rattle.run.specs.Frame.{Framed, shiftRows, framedLook, framedKind, framedStrike, framedStep, framedAll, framedLeave, frameRunFrom}
 use Rattle.run.specs.Raised.{carryBy, struckFrame, carried, raised}
 use Rattle.run.proofs.Frames.{Frame, gate-frame, strike-frame}
 use Rattle.run.proofs.Shifts.{before, shifts-at, raised-at}
@@ -28,10 +28,10 @@ use Rattle.carrying.proofs.Rows.{shifted-gate, shifted-strike, shifted-
 use Rattle.carrying.proofs.Looks.{Both, free, certain, both}
 use Rattle.carrying.proofs.Books.{qudit-in, choice-in, has-choice}
 
--- both runs, neither refused, with the frame F
-pub data Alike (d n : ℕ) : List ℕ → Run State → Run Framed → Type 0 where
+-- both runs, with the frame F
+pub data Alike (d n : ℕ) : List ℕ → State → Framed → Type 0 where
   alike : {F : List ℕ} (t results : List ℕ) → Frame d n F → Valid d n t
-      → Alike d n F (done (record { rows = shiftRows d n F t; results = results })) (done (record { rows = t; results = results; frame = F }))
+      → Alike d n F (record { rows = shiftRows d n F t; results = results }) (record { rows = t; results = results; frame = F })
 
 module _ (d n : ℕ) (dim : Dimension d) (ops : List Operation) (errors : List WeylError) (choices second : List ℕ) (ac : Accepted d n ops errors choices) where
   positive : 0 < d
@@ -54,7 +54,7 @@ module _ (d n : ℕ) (dim : Dimension d) (ops : List Operation) (errors : List W
       lq : q < n
       lq = qudit-in ac k q l e
 
-      by : (a b : Looked) → Both d n t q F a b
+      by : (a b : Look) → Both d n t q F a b
           → Alike d n F (directLook d n second (measured ops k) q (record { rows = shiftRows d n F t; results = results }) b)
           (framedLook d n choices (measured ops k) q (record { rows = t; results = results; frame = F }) a)
       by a b (free i li y) =
@@ -62,10 +62,10 @@ module _ (d n : ℕ) (dim : Dimension d) (ops : List Operation) (errors : List W
           (alike _ _ f (collapse-keeps-valid d n dim t ok q i _ lq (choice-in ac k q l e) y))
       by a b (certain outcome) = alike t _ f ok
 
-  step-alike : (k : ℕ) → k < length ops → {F : List ℕ} {A : Run State} {B : Run Framed} → Raises k (struckFrame d n ops errors k F) → Alike d n F A B
+  step-alike : (k : ℕ) → k < length ops → {F : List ℕ} {A : State} {B : Framed} → Raises k (struckFrame d n ops errors k F) → Alike d n F A B
       → Alike d n (carryBy d n ops errors k (kind (opAt ops k)) (struckFrame d n ops errors k F))
-      (andThen A (directStep d n ops errors second k))
-      (andThen B (framedStep d n ops errors choices k))
+      (directStep d n ops errors second k A)
+      (framedStep d n ops errors choices k B)
   unfolding directStep framedStep directStrike framedStrike struckFrame
   step-alike k l {F} up (alike t results f ok) =
       rw (shifted-strike d n dim errors (ac .strikes .each) k F t f (valid-tableau d n t ok) (length errors) (le-refl (length errors)))
@@ -84,12 +84,12 @@ module _ (d n : ℕ) (dim : Dimension d) (ops : List Operation) (errors : List W
       (onward-alike from F t results f ok m (omega arith) (λ i k. up i (omega arith)))
 
   -- the errors after all operations
-  end-alike : (m : ℕ) (shifts frame : List ℕ) {F : List ℕ} {A : Run State} {B : Run Framed} → Alike d n F A B
-      → Agree n m (andThen A (directEnd d n ops errors second)) (andThen B (framedEnd d n ops errors choices shifts frame))
-  unfolding directEnd framedEnd framedLeave directStrike framedStrike
+  end-alike : (m : ℕ) (shifts frame : List ℕ) {F : List ℕ} {A : State} {B : Framed} → Alike d n F A B
+      → Agree n m (directStrike d n ops errors second (length ops) A) (framedLeave d n ops errors choices shifts frame (framedStrike d n ops errors choices (length ops) B))
+  unfolding framedLeave directStrike framedStrike
   end-alike m shifts frame {F} (alike t results f ok) =
       rw (shifted-strike d n dim errors (ac .strikes .each) (length ops) F t f (valid-tableau d n t ok) (length errors) (le-refl (length errors)))
-      (record { struck = _; carried = _; struck-is = refl; carried-is = refl; tableau = λ i l. refl; results = λ i l. refl })
+      (record { tableau = λ i l. refl; results = λ i l. refl })
 
 -- The raised choices are so.
 raises : {d n : ℕ} {ops : List Operation} {errors : List WeylError} {choices : List ℕ} → (dim : Dimension d) (ac : Accepted d n ops errors choices) (F : List ℕ) (i : ℕ)
@@ -102,7 +102,7 @@ raises {d} {n} {ops} {errors} {choices} dim ac F i l q e =
     ∙ ap (λ (x : ℕ). (getD choices j 0 + x) % d) (shifts-at d n ops errors 0 F (length ops) i j q l e (omega arith))
 
 pub carried-from : CarriedFrom
-unfolding directRun frameRunFrom
+unfolding directRun frameRunFrom framedAll
 carried-from d n dim ops errors choices F ac powers len t results shifts frame ok =
     let second = raised d n ops errors F choices in
     end-alike d n dim ops errors choices second ac _ shifts frame

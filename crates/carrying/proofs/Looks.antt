@@ -18,9 +18,8 @@ use Rattle.search.proofs.Search.{found-fails, all-good}
 use Rattle.tableau.specs.Tableau.{every}
 use Rattle.validity.specs.Validity.{Valid}
 use Rattle.validity.proofs.Exactly.{valid-tableau}
+use Rattle.outcome.specs.declared.Look.{Look}
 use Rattle.outcome.specs.declared.Look.the-variants.{Free, Certain}
-use Rattle.outcome.specs.declared.Looked.{Looked}
-use Rattle.outcome.specs.declared.Looked.the-variants.{Seen}
 use Rattle.outcome.specs.Look.{stabilizerPower, commutes, pivotOf, weighted, lookBy, look}
 use Rattle.outcome.proofs.Combination.{pivot-same}
 use Rattle.keeping.proofs.View.{reads-at, basis, valid-on}
@@ -41,9 +40,15 @@ neg-neg e {x} l =
     l)
 
 -- what is seen in t, and what in t shifted by F
-pub data Both (d n : ℕ) (t : List ℕ) (q : ℕ) (F : List ℕ) : Looked → Looked → Type 0 where
-  free : (k : ℕ) → k < n → look d n t q ≡ Seen (Free k) → Both d n t q F (Seen (Free k)) (Seen (Free k))
-  certain : (outcome : ℕ) → Both d n t q F (Seen (Certain outcome)) (Seen (Certain ((outcome + xOf F q) % d)))
+pub data Both (d n : ℕ) (t : List ℕ) (q : ℕ) (F : List ℕ) : Look → Look → Type 0 where
+  free : (k : ℕ) → k < n → look d n t q ≡ Free k → Both d n t q F (Free k) (Free k)
+  certain : (outcome : ℕ) → Both d n t q F (Certain outcome) (Certain ((outcome + xOf F q) % d))
+
+-- A shifted tableau is valid: its powers are the same.
+pub shift-keeps-valid : (d n : ℕ) → Dimension d → (t F : List ℕ) → Valid d n t → Valid d n (shiftRows d n F t)
+shift-keeps-valid zero n dim t F ok = absurd (omega (arith, dim .low))
+shift-keeps-valid (suc e) n dim t F ok =
+    valid-on dim (basis ok) {f = every (shiftRow (suc e) n F)} (shift-keeps (suc e) n F) t (ok .room) (λ i l. reads-shift e n F (reads-at ok i l))
 
 module _ (e n : ℕ) (dim : Dimension (suc e)) (t : List ℕ) (ok : Valid (suc e) n t) (F : List ℕ) where
   abbrev d : ℕ
@@ -51,11 +56,6 @@ module _ (e n : ℕ) (dim : Dimension (suc e)) (t : List ℕ) (ok : Valid (suc e
 
   abbrev shifted : List ℕ
   shifted = shiftRows d n F t
-
-  -- A shifted tableau is valid: its powers are the same.
-  valid-shifted : Valid d n shifted
-  valid-shifted =
-      valid-on dim (basis ok) {f = every (shiftRow d n F)} (shift-keeps d n F) t (ok .room) (λ i l. reads-shift e n F (reads-at ok i l))
 
   module _ (q : ℕ) (lq : q < n) where
     alike : (i : ℕ) → i < n → stabilizerPower n t q i ≡ stabilizerPower n shifted q i
@@ -71,11 +71,11 @@ module _ (e n : ℕ) (dim : Dimension (suc e)) (t : List ℕ) (ok : Valid (suc e
           ∙ ap (shiftRow d n F) (weighted-z dim ok q lq c ∙ ap (zWith n q) (neg-neg e (reads-weighted ok (omega arith) q .small (2 * n) (omega arith))))
           ∙ shift-z d n F q outcome lq (omega (arith, dim .low))
 
-      shifted-certain : look d n shifted q ≡ Seen (Certain ((outcome + xOf F q) % d))
+      shifted-certain : look d n shifted q ≡ Certain ((outcome + xOf F q) % d)
       shifted-certain =
-          look-certain dim valid-shifted q lq (λ i l. sym (alike i l) ∙ c i l)
-          ∙ ap (λ (x : ℕ). Seen (Certain (neg d x))) (ap (phaseOf n) weighed ∙ z-phase n q _)
-          ∙ ap (λ (x : ℕ). Seen (Certain x)) (sym (neg-neg e (mod-lt _ (omega arith))))
+          look-certain dim (shift-keeps-valid d n dim t F ok) q lq (λ i l. sym (alike i l) ∙ c i l)
+          ∙ ap (λ (x : ℕ). Certain (neg d x)) (ap (phaseOf n) weighed ∙ z-phase n q _)
+          ∙ ap (λ (x : ℕ). Certain x) (sym (neg-neg e (mod-lt _ (omega arith))))
 
     both-at : Both d n t q F (look d n t q) (look d n shifted q)
     unfolding look pivotOf
@@ -84,8 +84,8 @@ module _ (e n : ℕ) (dim : Dimension (suc e)) (t : List ℕ) (ok : Valid (suc e
         go : (p : Place) → pivotOf n t q ≡ p → Both (suc e) n t q F (look (suc e) n t q) (look (suc e) n (shiftRows (suc e) n F t) q)
         go (At k) x =
             let l = found-fails (commutes n t q) n k x .0 in
-            let y : look (suc e) n t q ≡ Seen (Free k) = ap (lookBy (suc e) n t q) x in
-            let z : look (suc e) n (shiftRows (suc e) n F t) q ≡ Seen (Free k) =
+            let y : look (suc e) n t q ≡ Free k = ap (lookBy (suc e) n t q) x in
+            let z : look (suc e) n (shiftRows (suc e) n F t) q ≡ Free k =
             ap (lookBy (suc e) n (shiftRows (suc e) n F t) q) (sym (pivot-same n t (shiftRows (suc e) n F t) q alike) ∙ x) in
             subst₂ (Both (suc e) n t q F) (sym y) (sym z) (free k l y)
         go Nowhere x =

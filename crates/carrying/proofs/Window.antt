@@ -9,7 +9,8 @@ use native.Mathlib.Omega.{arith}
 use lib.Dec.{eqb}
 use lib.ListN.{length, getD}
 use lib.Seq.{ext-getD}
-use Rattle.row.specs.Row.{xOf}
+use Rattle.modular.specs.Modular.{neg}
+use Rattle.row.specs.Row.{xOf, phaseOf}
 use Rattle.tableau.specs.Tableau.{row, onRows, every}
 use Rattle.tableau.proofs.Parts.{Keeps, row-length, row-at, row-in, on-length, on-at}
 use Rattle.operation.specs.declared.Operation.{Operation}
@@ -21,7 +22,8 @@ use Rattle.operation.proofs.Error.{error-keeps}
 use Rattle.circuit.specs.Circuit.{errAt}
 use Rattle.search.specs.declared.Place.{Place}
 use Rattle.search.specs.declared.Place.the-variants.{At, Nowhere}
-use Rattle.outcome.specs.Look.{destabilizerPower, pivotOf, weighted, outcomeOf, lookBy, look}
+use Rattle.outcome.specs.declared.Look.the-variants.{Certain}
+use Rattle.outcome.specs.Look.{destabilizerPower, pivotOf, weighted, lookBy, look}
 use Rattle.outcome.proofs.Combination.{combination-same, pivot-same}
 use Rattle.outcome.specs.Collapse.{collapseRow, collapse}
 use Rattle.outcome.proofs.Collapsed.{collapsed-keeps}
@@ -83,7 +85,7 @@ module _ (n : ℕ) {t u : List ℕ} where
         by : (p : Place) → lookBy d n t q p ≡ lookBy d n u q p
         by (At k) = refl
         by Nowhere =
-            ap (outcomeOf d n q)
+            ap (λ (v : List ℕ). Certain (neg d (phaseOf n v)))
             (combination-same d n t u (destabilizerPower n t q) (destabilizerPower n u q) n (λ i l. power i (omega arith)) (λ i l. w .rows (n + i) (omega arith)))
 
 pub window-strike : (d n : ℕ) (errors : List WeylError) (k : ℕ) {t u : List ℕ} → Window n t u → (j : ℕ) → Window n (strike d n errors k t j) (strike d n errors k u j)

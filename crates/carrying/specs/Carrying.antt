@@ -10,34 +10,31 @@ use Rattle.operation.specs.declared.Operation.{Operation}
 use Rattle.operation.specs.declared.WeylError.{WeylError}
 use Rattle.circuit.specs.Circuit.{measured, Accepted}
 use Rattle.validity.specs.Validity.{Valid}
-use Rattle.run.specs.Run.{Run, done, onward}
 use Rattle.run.specs.Direct.{State, directStep, directRun}
 use Rattle.run.specs.Frame.{Ended, noFrame, shiftRows, verdictOf, frameRunFrom, frameRun}
 use Rattle.run.specs.Raised.{finalFrame, resultShifts, raised}
 
--- Validity is kept by every step of the direct run, and number 10 never comes.
-pub record Sound (d n : ℕ) (A : Run State) : Type 0 where
-  pub state : State
-  pub is : A ≡ done state
-  pub valid : Valid d n (state .rows)
-
-abbrev pub DirectSound : Type 0
-DirectSound = (d n : ℕ) → Dimension d → (ops : List Operation) (errors : List WeylError) (choices : List ℕ)
+-- Validity survives every operation and error: each step of the direct run keeps it (the errors of its place, then any of the
+-- seven operations), and so does the whole run.
+abbrev pub StepKeepsValid : Type 0
+StepKeepsValid = (d n : ℕ) → Dimension d → (ops : List Operation) (errors : List WeylError) (choices : List ℕ)
     → Accepted d n ops errors choices
-    → (st : State) → Valid d n (st .rows) → (count : ℕ) → count ≤ length ops
-    → Sound d n (onward (directStep d n ops errors choices) 0 st count)
+    → (k : ℕ) → k < length ops → (st : State) → Valid d n (st .rows) → Valid d n (directStep d n ops errors choices k st .rows)
 
-abbrev pub DirectEnds : Type 0
-DirectEnds = (d n : ℕ) → Dimension d → (ops : List Operation) (errors : List WeylError) (choices : List ℕ)
+abbrev pub RunKeepsValid : Type 0
+RunKeepsValid = (d n : ℕ) → Dimension d → (ops : List Operation) (errors : List WeylError) (choices : List ℕ)
     → Accepted d n ops errors choices
-    → (st : State) → Valid d n (st .rows) → Sound d n (directRun d n ops errors choices st)
+    → (st : State) → Valid d n (st .rows) → Valid d n (directRun d n ops errors choices st .rows)
 
--- Both runs end without a refusal; the needed bytes of the tableaus, and the two bytes per measurement, are equal.
-pub record Agree (n measurements : ℕ) (A : Run State) (B : Run Ended) : Type 0 where
-  pub struck : State
-  pub carried : Ended
-  pub struck-is : A ≡ done struck
-  pub carried-is : B ≡ done carried
+-- The frame run keeps it too, from any starting frame F.
+abbrev pub FrameKeepsValid : Type 0
+FrameKeepsValid = (d n : ℕ) → Dimension d → (ops : List Operation) (errors : List WeylError) (choices F : List ℕ)
+    → Accepted d n ops errors choices
+    → (st : State) → Valid d n (st .rows) → 2 * measured ops (length ops) ≤ length (st .results)
+    → (shifts frame : List ℕ) → Valid d n (frameRunFrom d n ops errors choices F st shifts frame .rows)
+
+-- The needed bytes of the tableaus, and the two bytes per measurement, are equal.
+pub record Agree (n measurements : ℕ) (struck : State) (carried : Ended) : Type 0 where
   pub tableau : (i : ℕ) → i < 2 * n * (2 * n + 1) → getD (struck .rows) i 0 ≡ getD (carried .rows) i 0
   pub results : (i : ℕ) → i < 2 * measurements → getD (struck .results) i 0 ≡ getD (carried .results) i 0
 
@@ -66,11 +63,7 @@ CarriedFrom = (d n : ℕ) → Dimension d → (ops : List Operation) (errors : L
     (frameRunFrom d n ops errors choices F (record { rows = t; results = results }) shifts frame)
 
 -- The frame run is the clean run, without errors, with the final frame added: to the rows, and to each result its shift.
-pub record CleanPlus (d n : ℕ) (ops : List Operation) (errors : List WeylError) (F frame : List ℕ) (A : Run State) (B : Run Ended) : Type 0 where
-  pub clean : State
-  pub framed : Ended
-  pub clean-is : A ≡ done clean
-  pub framed-is : B ≡ done framed
+pub record CleanPlus (d n : ℕ) (ops : List Operation) (errors : List WeylError) (F frame : List ℕ) (clean : State) (framed : Ended) : Type 0 where
   pub final : framed .frame ≡ finalFrame d n ops errors F ++ drop (2 * n) frame
   pub rows : framed .rows ≡ shiftRows d n (finalFrame d n ops errors F) (clean .rows)
   pub outcomes : (j : ℕ) → j < measured ops (length ops)
@@ -78,14 +71,9 @@ pub record CleanPlus (d n : ℕ) (ops : List Operation) (errors : List WeylError
   pub marks : (j : ℕ) → j < measured ops (length ops) → getD (framed .results) (2 * j + 1) 0 ≡ getD (clean .results) (2 * j + 1) 0
 
 abbrev pub FrameIsClean : Type 0
-FrameIsClean = (d n : ℕ) → Dimension d → (ops : List Operation) (errors : List WeylError) (choices F : List ℕ)
-    → Accepted d n ops errors choices
-    → (t results shifts frame : List ℕ)
-    → Valid d n t
-    → 2 * measured ops (length ops) ≤ length results
-    → CleanPlus d n ops errors F frame
-    (directRun d n ops [] choices (record { rows = t; results = results }))
-    (frameRunFrom d n ops errors choices F (record { rows = t; results = results }) shifts frame)
+FrameIsClean = (d n : ℕ) (ops : List Operation) (errors : List WeylError) (choices F : List ℕ) (st : State) (shifts frame : List ℕ)
+    → 2 * measured ops (length ops) ≤ length (st .results)
+    → CleanPlus d n ops errors F frame (directRun d n ops [] choices st) (frameRunFrom d n ops errors choices F st shifts frame)
 
 -- On a valid tableau the verdict is clean exactly if the final frame is 0.
 abbrev pub CleanExactly : Type 0

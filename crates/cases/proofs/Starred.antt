@@ -10,14 +10,14 @@ use Rattle.operation.specs.Gate.{gatePowers, gatePhase, gateRow}
 use Rattle.operation.specs.Error.{errorRow}
 use Rattle.row.specs.Generators.{zWith}
 use Rattle.weyl.specs.Scalar.{scalar}
-use Rattle.search.specs.Search.{all, firstNot}
+use Rattle.search.specs.Search.{firstNot}
 use Rattle.tableau.specs.Tableau.{part, put, eachRow}
 use Rattle.layer.specs.Layer.{zeroTableau}
 use Rattle.circuit.specs.Circuit.{measured}
-use Rattle.outcome.specs.Look.{pivotOf, combination, weighted, isZ, outcomeOf, look}
+use Rattle.outcome.specs.Look.{pivotOf, combination, weighted, look}
 use Rattle.outcome.specs.Collapse.{collapseRow, collapse}
-use Rattle.run.specs.Run.{done, onward, noted}
-use Rattle.run.specs.Direct.{State, strike, directLook, directKind, directStrike, directStep, directEnd, directRun}
+use Rattle.run.specs.Run.{onward, noted}
+use Rattle.run.specs.Direct.{State, strike, directLook, directKind, directStrike, directStep, directRun}
 
 -- ★1 Fourier: (1,1,0) gives (2,1,2).
 fourier : gateRow 3 1 (Fourier 0) (1 ∷ 1 ∷ 0 ∷ []) ≡ 2 ∷ 1 ∷ 2 ∷ []
@@ -69,11 +69,11 @@ zeros = zeroTableau 1 (9 ∷ 9 ∷ 9 ∷ 9 ∷ 9 ∷ 9 ∷ [])
 abbrev start : State
 start = record { rows = zeros; results = 9 ∷ 9 ∷ [] }
 
-certain : directRun 3 1 (Measure 0 ∷ []) [] (2 ∷ []) start ≡ done (record { rows = zeros; results = 0 ∷ 0 ∷ [] })
-unfolding directRun onward directStep directStrike directEnd directKind directLook strike measured noted look pivotOf firstNot weighted combination scalar outcomeOf isZ all zeroTableau eachRow part put product power rowOf tab dot
+certain : directRun 3 1 (Measure 0 ∷ []) [] (2 ∷ []) start ≡ record { rows = zeros; results = 0 ∷ 0 ∷ [] }
+unfolding directRun onward directStep directStrike directKind directLook strike measured noted look pivotOf firstNot weighted combination scalar zeroTableau eachRow part put product power rowOf tab dot
 certain = refl
 
 -- ★9 Fourier, then measure with choice 2: free 2, rows (1,0,0) and (0,1,1).
-free : directRun 3 1 (Fourier 0 ∷ Measure 0 ∷ []) [] (2 ∷ []) start ≡ done (record { rows = 1 ∷ 0 ∷ 0 ∷ 0 ∷ 1 ∷ 1 ∷ []; results = 2 ∷ 1 ∷ [] })
-unfolding directRun onward directStep directStrike directEnd directKind directLook strike measured noted look pivotOf firstNot collapse collapseRow zWith inverse inverseBelow zeroTableau eachRow part put product power rowOf tab dot gateRow gatePowers gatePhase
+free : directRun 3 1 (Fourier 0 ∷ Measure 0 ∷ []) [] (2 ∷ []) start ≡ record { rows = 1 ∷ 0 ∷ 0 ∷ 0 ∷ 1 ∷ 1 ∷ []; results = 2 ∷ 1 ∷ [] }
+unfolding directRun onward directStep directStrike directKind directLook strike measured noted look pivotOf firstNot collapse collapseRow zWith inverse inverseBelow zeroTableau eachRow part put product power rowOf tab dot gateRow gatePowers gatePhase
 free = refl

@@ -5,8 +5,7 @@ use Prim.Native.Nat.{ℕ, _<_, _≤_}
 use lib.ListN.{length}
 use Rattle.operation.specs.declared.Operation.{Operation}
 use Rattle.operation.specs.declared.WeylError.{WeylError}
-use Rattle.circuit.specs.declared.Advanced.{Advanced}
-use Rattle.circuit.specs.declared.Advanced.the-variants.{Next, Refused}
+use Rattle.circuit.specs.declared.Progress.{Progress}
 use Rattle.circuit.specs.Circuit.{errAt, measured}
 
 -- entry j is the first whose place is not below k
@@ -15,7 +14,7 @@ pub record Reached (errors : List WeylError) (j k : ℕ) : Type 0 where
   pub spent : (i : ℕ) → i < j → errAt errors i .place < k
   pub left : (i : ℕ) → j ≤ i → i < length errors → k ≤ errAt errors i .place
 
--- Where a run stands before step k: at the first error entry not yet taken, after as many measurements. The only refusal is 10.
-abbrev pub Stands : List Operation → List WeylError → ℕ → Advanced → Type 0
-Stands ops errors k (Next at) = Reached errors (at .entry) k × (at .measurements ≡ measured ops k)
-Stands ops errors k (Refused number place) = number ≡ 10
+-- Where a run stands before step k: at the first error entry not yet taken, after as many measurements.
+pub record Stands (ops : List Operation) (errors : List WeylError) (k : ℕ) (at : Progress) : Type 0 where
+  pub reached : Reached errors (at .entry) k
+  pub count : at .measurements ≡ measured ops k

@@ -10,12 +10,6 @@ pub struct Progress {
     pub measurements: usize,
 }
 
-// A step taken, or the refusal that ends the run there.
-pub enum Advanced {
-    Next(Progress),
-    Refused { number: usize, place: usize },
-}
-
 // 1 for a measurement, else 0.
 pub fn tally(operation: Operation) -> usize
     ensures { λ r. ⌜ (r ≡ tally operation) × (r ≤ 1) ⌝ }

@@ -10,8 +10,6 @@ use Rattle.body.specs.Body.{Told, refused, accepted}
 use Rattle.circuit.specs.Circuit.{measured}
 use Rattle.book.specs.Book.{readBook, bodyOf}
 use Rattle.book.specs.Decoded.{operationsOf, errorsOf, measurementsIn}
-use Rattle.run.specs.Run.{Run, done}
-use Rattle.run.specs.Run as run
 use Rattle.run.specs.Direct.{State, directRun}
 
 pub record Left : Type 0 where
@@ -24,13 +22,10 @@ pub record Left : Type 0 where
 abbrev pub roomy : ℕ → ℕ → List ℕ → List ℕ → Bool
 roomy n measurements t results = leb (2 * n * (2 * n + 1)) (length t) && leb (2 * measurements) (length results)
 
--- Success returns 0 and the number of measurements. 10: a certain product isn't Z on q; the tableau is as before that
--- measurement, and the results so far are written.
-abbrev pub ended : ℕ → Run State → Left
-ended measurements (run.refused j t results) = record { number = 10; place = j; tableau = t; results = results }
-ended measurements (done st) = record { number = 0; place = measurements; tableau = st .rows; results = st .results }
+-- what a run of three bodies ends with: success returns 0 and the number of measurements
+abbrev pub ended : ℕ → State → Left
+ended measurements st = record { number = 0; place = measurements; tableau = st .rows; results = st .results }
 
--- what a run of three bodies ends with
 abbrev pub directBodies : ℕ → ℕ → List ℕ → List ℕ → List ℕ → State → Left
 directBodies d n ops errors choices st =
     ended (measured (operationsOf d n ops) (length (operationsOf d n ops))) (directRun d n (operationsOf d n ops) (errorsOf errors) choices st)

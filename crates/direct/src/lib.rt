@@ -7,7 +7,6 @@ ghost use Rattle.even.specs.Even.{plain};
 ghost use Rattle.book.specs.Decoded.{Bodies};
 ghost use Rattle.direct.specs.DirectBook.{roomy, directBodies, directBook};
 use body::Reading;
-use circuit::Advanced;
 use circuit::Progress;
 use tableau::Answer;
 
@@ -31,15 +30,7 @@ fn run_even(
     };
     let mut k = 0;
     while k < count {
-        let advanced = direct_step::advance(t, results, ops, errors, choices, k, at, d, n);
-        match advanced {
-            Advanced::Next(next) => {
-                at = next;
-            }
-            Advanced::Refused { number, place } => {
-                return Answer { number, place };
-            }
-        }
+        at = direct_step::advance(t, results, ops, errors, choices, k, at, d, n);
         k += 1;
     }
     let from = at.entry;
@@ -77,7 +68,7 @@ fn is_roomy(t: &[u8], results: &[u8], measurements: usize, n: usize) -> bool
     (2 * n * (2 * n + 1) <= t.len()) & (measurements <= results.len() / 2)
 }
 
-// The direct run of a book from the lent tableau: refusals 1 to 7, then 8, then 9, then 10; or 0 and the number of measurements.
+// The direct run of a book from the lent tableau: refusals 1 to 7, then 8, then 9; or 0 and the number of measurements.
 pub fn direct_run(book: &[u8], t: &mut [u8], results: &mut [u8]) -> Answer
     ensures { λ r. ⌜ record { number = r .number; place = r .place; tableau = now (t .exit); results = now (results .exit) } ≡ directBook (now (book .entry)) (now (t .entry)) (now (results .entry)) ⌝ }
 {

@@ -7,12 +7,11 @@ use lib.ListN.{length}
 use Rattle.operation.specs.declared.Operation.{Operation}
 use Rattle.operation.specs.declared.WeylError.{WeylError}
 use Rattle.circuit.specs.Circuit.{opAt, measured}
-use Rattle.run.specs.Run.{Run}
 use Rattle.run.specs.Direct.{State, strike, directOperation, directStrike, directStep}
 
 module _ (d n : ℕ) (ops : List Operation) (errors : List WeylError) (choices : List ℕ) where
   pub step-is :
-      (k : ℕ) (t results : List ℕ) {op : Operation} {j : ℕ} {struck : List ℕ} {after : Run State} →
+      (k : ℕ) (t results : List ℕ) {op : Operation} {j : ℕ} {struck : List ℕ} {after : State} →
       opAt ops k ≡ op →
       j ≡ measured ops k →
       struck ≡ strike d n errors k t (length errors) →

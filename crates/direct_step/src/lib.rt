@@ -7,12 +7,10 @@ ghost use Rattle.modular.specs.Dimension.{listed};
 ghost use Rattle.validity.specs.Validity.{Valid};
 ghost use Rattle.even.specs.Even.{plain};
 ghost use Rattle.operation.specs.Operation.{allowed};
-ghost use Rattle.circuit.specs.Circuit.{tally, measured, Strikes};
+ghost use Rattle.circuit.specs.Circuit.{tally, Strikes};
 ghost use Rattle.circuit.specs.Reached.{Reached, Stands};
 ghost use Rattle.book.specs.Decoded.{operationsOf, errorsOf, Bodies};
 ghost use Rattle.run.specs.Direct.{strike, directOperation, directStep};
-ghost use Rattle.direct_step.specs.Progress.{stateAfter, stateOf};
-use circuit::Advanced;
 use circuit::Progress;
 use entries::Taken;
 use operation::Operation;
@@ -35,7 +33,7 @@ pub fn strike(t: &mut [u8], errors: &[u8], j: usize, k: usize, d: u8, n: usize) 
     i
 }
 
-// Does an operation on the rows; measurement j takes choice j. False where its product isn't Z: nothing is changed then.
+// Does an operation on the rows; measurement j takes choice j.
 fn perform(
     t: &mut [u8],
     results: &mut [u8],
@@ -44,15 +42,15 @@ fn perform(
     j: usize,
     d: u8,
     n: usize,
-) -> bool
+)
     requires { ⌜ (listed d ≡ true) × (n ≤ 64) × (allowed d n operation ≡ true) × (j + tally operation ≤ length (now choices)) × (2 * length (now choices) ≤ length (now results)) × ((i : ℕ) → i < length (now choices) → getD (now choices) i 0 < d) × Valid d n (now t) ⌝ }
-    ensures { λ r. ⌜ (stateAfter r j (plain d n (now (t .exit))) (now (results .exit)) ≡ directOperation d n (now (choices .entry)) j (record { rows = plain d n (now (t .entry)); results = now (results .entry) }) operation) × Valid d n (now (t .exit)) × (length (now (results .exit)) ≡ length (now (results .entry))) ⌝ }
+    ensures { λ _. ⌜ (record { rows = plain d n (now (t .exit)); results = now (results .exit) } ≡ directOperation d n (now (choices .entry)) j (record { rows = plain d n (now (t .entry)); results = now (results .entry) }) operation) × Valid d n (now (t .exit)) × (length (now (results .exit)) ≡ length (now (results .entry))) ⌝ }
 {
     if let Operation::Measure { q } = operation {
-        return measure::measure(t, results, q, choices[j], 0, j, d, n);
+        measure::measure(t, results, q, choices[j], 0, j, d, n);
+        return;
     }
     gate::gate_rows(t, operation, d, n);
-    true
 }
 
 // Step k: the errors of place k, then operation k.
@@ -66,29 +64,21 @@ pub fn advance(
     at: Progress,
     d: u8,
     n: usize,
-) -> Advanced
-    requires { ⌜ (k < length (now ops) / 4) × Bodies d n (now ops) (now errors) (now choices) × Reached (errorsOf (now errors)) (at .entry) k × (at .measurements ≡ measured (operationsOf d n (now ops)) k) × (2 * length (now choices) ≤ length (now results)) × Valid d n (now t) ⌝ }
-    ensures { λ r. ⌜ (stateOf r (plain d n (now (t .exit))) (now (results .exit)) ≡ directStep d n (operationsOf d n (now (ops .entry))) (errorsOf (now (errors .entry))) (now (choices .entry)) k (record { rows = plain d n (now (t .entry)); results = now (results .entry) })) × Stands (operationsOf d n (now (ops .entry))) (errorsOf (now (errors .entry))) (k + 1) r × Valid d n (now (t .exit)) × (length (now (results .exit)) ≡ length (now (results .entry))) ⌝ }
+) -> Progress
+    requires { ⌜ (k < length (now ops) / 4) × Bodies d n (now ops) (now errors) (now choices) × Stands (operationsOf d n (now ops)) (errorsOf (now errors)) k at × (2 * length (now choices) ≤ length (now results)) × Valid d n (now t) ⌝ }
+    ensures { λ r. ⌜ (record { rows = plain d n (now (t .exit)); results = now (results .exit) } ≡ directStep d n (operationsOf d n (now (ops .entry))) (errorsOf (now (errors .entry))) (now (choices .entry)) k (record { rows = plain d n (now (t .entry)); results = now (results .entry) })) × Stands (operationsOf d n (now (ops .entry))) (errorsOf (now (errors .entry))) (k + 1) r × Valid d n (now (t .exit)) × (length (now (results .exit)) ≡ length (now (results .entry))) ⌝ }
 {
     let from = at.entry;
     let entry = strike(t, errors, from, k, d, n);
     let Taken::Next(step) = entries::step_at(ops, k, d, n) else {
-        return Advanced::Refused {
-            number: 5,
-            place: k,
-        };
+        return at;
     };
     let operation = step.operation;
     let j = at.measurements;
-    if !perform(t, results, choices, operation, j, d, n) {
-        return Advanced::Refused {
-            number: 10,
-            place: j,
-        };
-    }
+    perform(t, results, choices, operation, j, d, n);
     let measurements = j + circuit::tally(operation);
-    Advanced::Next(Progress {
+    Progress {
         entry,
         measurements,
-    })
+    }
 }

@@ -7,12 +7,11 @@ use lib.ListN.{length}
 use Rattle.operation.specs.declared.Operation.{Operation}
 use Rattle.operation.specs.declared.WeylError.{WeylError}
 use Rattle.circuit.specs.Circuit.{opAt, measured}
-use Rattle.run.specs.Run.{Run}
 use Rattle.run.specs.Frame.{Framed, strikeFrame, framedOperation, framedStrike, framedStep}
 
 module _ (d n : ℕ) (ops : List Operation) (errors : List WeylError) (choices : List ℕ) where
   pub step-is :
-      (k : ℕ) (t results frame : List ℕ) {op : Operation} {j : ℕ} {struck : List ℕ} {after : Run Framed} →
+      (k : ℕ) (t results frame : List ℕ) {op : Operation} {j : ℕ} {struck : List ℕ} {after : Framed} →
       opAt ops k ≡ op →
       j ≡ measured ops k →
       struck ≡ strikeFrame d n errors k frame (length errors) →

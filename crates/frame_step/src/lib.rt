@@ -8,12 +8,10 @@ ghost use Rattle.row.specs.Row.{Powers};
 ghost use Rattle.validity.specs.Validity.{Valid};
 ghost use Rattle.even.specs.Even.{plain};
 ghost use Rattle.operation.specs.Operation.{allowed};
-ghost use Rattle.circuit.specs.Circuit.{tally, measured, Strikes};
+ghost use Rattle.circuit.specs.Circuit.{tally, Strikes};
 ghost use Rattle.circuit.specs.Reached.{Reached, Stands};
 ghost use Rattle.book.specs.Decoded.{operationsOf, errorsOf, Bodies};
 ghost use Rattle.run.specs.Frame.{strikeFrame, framedOperation, framedStep};
-ghost use Rattle.frame_step.specs.Progress.{framedAfter, framedOf, Kept, KeptUnless};
-use circuit::Advanced;
 use circuit::Progress;
 use entries::Taken;
 use operation::Operation;
@@ -36,8 +34,7 @@ pub fn strike(frame: &mut [u8], errors: &[u8], j: usize, k: usize, d: u8, n: usi
     i
 }
 
-// Does an operation: a gate on the rows and on the frame, a measurement on the rows alone. False where the product of
-// measurement j isn't Z: nothing is changed then.
+// Does an operation: a gate on the rows and on the frame, a measurement on the rows alone.
 fn perform(
     t: &mut [u8],
     results: &mut [u8],
@@ -47,19 +44,19 @@ fn perform(
     j: usize,
     d: u8,
     n: usize,
-) -> bool
+)
     requires { ⌜ (listed d ≡ true) × (n ≤ 64) × (allowed d n operation ≡ true) × (j + tally operation ≤ length (now choices)) × (2 * length (now choices) ≤ length (now results)) × ((i : ℕ) → i < length (now choices) → getD (now choices) i 0 < d) × Powers d n (now frame) × Valid d n (now t) ⌝ }
-    ensures { λ r. ⌜ (framedAfter r j (record { rows = plain d n (now (t .exit)); results = now (results .exit); frame = now (frame .exit) }) ≡ framedOperation d n (now (choices .entry)) j (record { rows = plain d n (now (t .entry)); results = now (results .entry); frame = now (frame .entry) }) operation) × Valid d n (now (t .exit)) × Powers d n (now (frame .exit)) × (length (now (frame .exit)) ≡ length (now (frame .entry))) × (length (now (results .exit)) ≡ length (now (results .entry))) × KeptUnless r (now (frame .entry)) (now (frame .exit)) ⌝ }
+    ensures { λ _. ⌜ (record { rows = plain d n (now (t .exit)); results = now (results .exit); frame = now (frame .exit) } ≡ framedOperation d n (now (choices .entry)) j (record { rows = plain d n (now (t .entry)); results = now (results .entry); frame = now (frame .entry) }) operation) × Valid d n (now (t .exit)) × Powers d n (now (frame .exit)) × (length (now (frame .exit)) ≡ length (now (frame .entry))) × (length (now (results .exit)) ≡ length (now (results .entry))) ⌝ }
 {
     if let Operation::Measure { q } = operation {
-        return measure::measure(t, results, q, choices[j], frame[q], j, d, n);
+        measure::measure(t, results, q, choices[j], frame[q], j, d, n);
+        return;
     }
     gate::gate_rows(t, operation, d, n);
     frames::gate_frame(frame, operation, d, n);
-    true
 }
 
-// Step k: the errors of place k, then operation k. A refusal leaves the frame with those errors in it.
+// Step k: the errors of place k, then operation k.
 pub fn advance(
     t: &mut [u8],
     results: &mut [u8],
@@ -71,29 +68,21 @@ pub fn advance(
     at: Progress,
     d: u8,
     n: usize,
-) -> Advanced
-    requires { ⌜ (k < length (now ops) / 4) × Bodies d n (now ops) (now errors) (now choices) × Reached (errorsOf (now errors)) (at .entry) k × (at .measurements ≡ measured (operationsOf d n (now ops)) k) × (2 * length (now choices) ≤ length (now results)) × Powers d n (now frame) × Valid d n (now t) ⌝ }
-    ensures { λ r. ⌜ (framedOf r (record { rows = plain d n (now (t .exit)); results = now (results .exit); frame = now (frame .exit) }) ≡ framedStep d n (operationsOf d n (now (ops .entry))) (errorsOf (now (errors .entry))) (now (choices .entry)) k (record { rows = plain d n (now (t .entry)); results = now (results .entry); frame = now (frame .entry) })) × Stands (operationsOf d n (now (ops .entry))) (errorsOf (now (errors .entry))) (k + 1) r × Valid d n (now (t .exit)) × Powers d n (now (frame .exit)) × (length (now (frame .exit)) ≡ length (now (frame .entry))) × (length (now (results .exit)) ≡ length (now (results .entry))) × Kept r (strikeFrame d n (errorsOf (now (errors .entry))) k (now (frame .entry)) (length (errorsOf (now (errors .entry))))) (now (frame .exit)) ⌝ }
+) -> Progress
+    requires { ⌜ (k < length (now ops) / 4) × Bodies d n (now ops) (now errors) (now choices) × Stands (operationsOf d n (now ops)) (errorsOf (now errors)) k at × (2 * length (now choices) ≤ length (now results)) × Powers d n (now frame) × Valid d n (now t) ⌝ }
+    ensures { λ r. ⌜ (record { rows = plain d n (now (t .exit)); results = now (results .exit); frame = now (frame .exit) } ≡ framedStep d n (operationsOf d n (now (ops .entry))) (errorsOf (now (errors .entry))) (now (choices .entry)) k (record { rows = plain d n (now (t .entry)); results = now (results .entry); frame = now (frame .entry) })) × Stands (operationsOf d n (now (ops .entry))) (errorsOf (now (errors .entry))) (k + 1) r × Valid d n (now (t .exit)) × Powers d n (now (frame .exit)) × (length (now (frame .exit)) ≡ length (now (frame .entry))) × (length (now (results .exit)) ≡ length (now (results .entry))) ⌝ }
 {
     let from = at.entry;
     let entry = strike(frame, errors, from, k, d, n);
     let Taken::Next(step) = entries::step_at(ops, k, d, n) else {
-        return Advanced::Refused {
-            number: 5,
-            place: k,
-        };
+        return at;
     };
     let operation = step.operation;
     let j = at.measurements;
-    if !perform(t, results, frame, choices, operation, j, d, n) {
-        return Advanced::Refused {
-            number: 10,
-            place: j,
-        };
-    }
+    perform(t, results, frame, choices, operation, j, d, n);
     let measurements = j + circuit::tally(operation);
-    Advanced::Next(Progress {
+    Progress {
         entry,
         measurements,
-    })
+    }
 }

@@ -10,8 +10,6 @@ use Rattle.body.specs.Body.{Told, refused, accepted}
 use Rattle.circuit.specs.Circuit.{measured}
 use Rattle.book.specs.Book.{readBook, bodyOf}
 use Rattle.book.specs.Decoded.{operationsOf, errorsOf, measurementsIn}
-use Rattle.run.specs.Run.{Run, done}
-use Rattle.run.specs.Run as run
 use Rattle.run.specs.Frame.{Ended, frameRun}
 
 -- the four lent buffers
@@ -33,16 +31,9 @@ frameRoomy n measurements lent =
     leb (2 * n * (2 * n + 1)) (length (lent .tableau)) && (leb (2 * measurements) (length (lent .results))
     && (leb (2 * n) (length (lent .shifts)) && leb (2 * n) (length (lent .frame))))
 
--- The third number is the verdict: 0 clean, 1 shifted, and 0 with any refusal. Number 10 leaves shifts and frame unchanged.
-abbrev pub frameEnded : ℕ → Buffers → Run Ended → FrameLeft
-frameEnded measurements lent (run.refused j t results) =
-    record {
-      number = 10;
-      place = j;
-      verdict = 0;
-      left = record { tableau = t; results = results; shifts = lent .shifts; frame = lent .frame };
-    }
-frameEnded measurements lent (done end) =
+-- The third number is the verdict: 0 clean, 1 shifted, and 0 with any refusal.
+abbrev pub frameEnded : ℕ → Ended → FrameLeft
+frameEnded measurements end =
     record {
       number = 0;
       place = measurements;
@@ -57,7 +48,7 @@ turnedAway number place lent = record { number = number; place = place; verdict 
 -- what a run of three bodies ends with
 abbrev pub frameBodies : ℕ → ℕ → List ℕ → List ℕ → List ℕ → Buffers → FrameLeft
 frameBodies d n ops errors choices lent =
-    frameEnded (measured (operationsOf d n ops) (length (operationsOf d n ops))) lent
+    frameEnded (measured (operationsOf d n ops) (length (operationsOf d n ops)))
     (frameRun d n (operationsOf d n ops) (errorsOf errors) choices (record { rows = lent .tableau; results = lent .results }) (lent .shifts)
     (lent .frame))
 

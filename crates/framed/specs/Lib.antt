@@ -1,2 +1,1 @@
 pub mod FrameBook
-pub mod Carried

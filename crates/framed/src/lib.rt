@@ -7,12 +7,10 @@ ghost use Rattle.tableau.specs.Tableau.{Tableau};
 ghost use Rattle.validity.specs.Validity.{Valid};
 ghost use Rattle.even.specs.Even.{plain};
 ghost use Rattle.book.specs.Decoded.{operationsOf, errorsOf, Bodies};
-ghost use Rattle.run.specs.Frame.{noFrame};
-ghost use Rattle.frame_step.specs.Progress.{framedOf};
+ghost use Rattle.circuit.specs.Circuit.{measured};
+ghost use Rattle.run.specs.Frame.{noFrame, framedAll};
 ghost use Rattle.framed.specs.FrameBook.{frameRoomy, frameBodies, frameBook};
-ghost use Rattle.framed.specs.Carried.{framedAll, Counted};
 use body::Reading;
-use circuit::Advanced;
 use circuit::Progress;
 
 // What the frame run returns: 0, the number of measurements and the verdict, 0 clean or 1 shifted; or a refusal's number, its
@@ -34,8 +32,7 @@ fn refused(number: usize, place: usize) -> FrameAnswer
     }
 }
 
-// All operations on rows with even phases, then the errors after them: the frame is the final one. The number of measurements,
-// or refusal 10.
+// All operations on rows with even phases, then the errors after them: the frame is the final one. The number of measurements.
 fn carry_even(
     t: &mut [u8],
     results: &mut [u8],
@@ -45,9 +42,9 @@ fn carry_even(
     choices: &[u8],
     d: u8,
     n: usize,
-) -> Advanced
+) -> usize
     requires { ⌜ Bodies d n (now ops) (now errors) (now choices) × (2 * length (now choices) ≤ length (now results)) × Powers d n (now frame) × Valid d n (now t) ⌝ }
-    ensures { λ r. ⌜ (framedOf r (record { rows = plain d n (now (t .exit)); results = now (results .exit); frame = now (frame .exit) }) ≡ framedAll d n (operationsOf d n (now (ops .entry))) (errorsOf (now (errors .entry))) (now (choices .entry)) (record { rows = plain d n (now (t .entry)); results = now (results .entry); frame = now (frame .entry) })) × Counted (operationsOf d n (now (ops .entry))) r × Valid d n (now (t .exit)) × Powers d n (now (frame .exit)) × (length (now (frame .exit)) ≡ length (now (frame .entry))) ⌝ }
+    ensures { λ r. ⌜ (record { rows = plain d n (now (t .exit)); results = now (results .exit); frame = now (frame .exit) } ≡ framedAll d n (operationsOf d n (now (ops .entry))) (errorsOf (now (errors .entry))) (now (choices .entry)) (record { rows = plain d n (now (t .entry)); results = now (results .entry); frame = now (frame .entry) })) × (r ≡ measured (operationsOf d n (now (ops .entry))) (length (operationsOf d n (now (ops .entry))))) × Valid d n (now (t .exit)) × Powers d n (now (frame .exit)) × (length (now (frame .exit)) ≡ length (now (frame .entry))) ⌝ }
 {
     let count = ops.len() / 4;
     let mut at = Progress {
@@ -56,23 +53,12 @@ fn carry_even(
     };
     let mut k = 0;
     while k < count {
-        let advanced = frame_step::advance(t, results, frame, ops, errors, choices, k, at, d, n);
-        match advanced {
-            Advanced::Next(next) => {
-                at = next;
-            }
-            Advanced::Refused { number, place } => {
-                return Advanced::Refused { number, place };
-            }
-        }
+        at = frame_step::advance(t, results, frame, ops, errors, choices, k, at, d, n);
         k += 1;
     }
     let from = at.entry;
-    let entry = frame_step::strike(frame, errors, from, k, d, n);
-    Advanced::Next(Progress {
-        entry,
-        measurements: at.measurements,
-    })
+    frame_step::strike(frame, errors, from, k, d, n);
+    at.measurements
 }
 
 // The same on rows with their own phases.
@@ -85,9 +71,9 @@ fn carry(
     choices: &[u8],
     d: u8,
     n: usize,
-) -> Advanced
+) -> usize
     requires { ⌜ Bodies d n (now ops) (now errors) (now choices) × (2 * length (now choices) ≤ length (now results)) × Powers d n (now frame) × Valid d n (now t) ⌝ }
-    ensures { λ r. ⌜ (framedOf r (record { rows = now (t .exit); results = now (results .exit); frame = now (frame .exit) }) ≡ framedAll d n (operationsOf d n (now (ops .entry))) (errorsOf (now (errors .entry))) (now (choices .entry)) (record { rows = now (t .entry); results = now (results .entry); frame = now (frame .entry) })) × Counted (operationsOf d n (now (ops .entry))) r × Tableau d n (now (t .exit)) × Powers d n (now (frame .exit)) × (length (now (frame .exit)) ≡ length (now (frame .entry))) ⌝ }
+    ensures { λ r. ⌜ (record { rows = now (t .exit); results = now (results .exit); frame = now (frame .exit) } ≡ framedAll d n (operationsOf d n (now (ops .entry))) (errorsOf (now (errors .entry))) (now (choices .entry)) (record { rows = now (t .entry); results = now (results .entry); frame = now (frame .entry) })) × (r ≡ measured (operationsOf d n (now (ops .entry))) (length (operationsOf d n (now (ops .entry))))) × Tableau d n (now (t .exit)) × Powers d n (now (frame .exit)) × (length (now (frame .exit)) ≡ length (now (frame .entry))) ⌝ }
 {
     even::to_even(t, d, n);
     let carried = carry_even(t, results, frame, ops, errors, choices, d, n);
@@ -111,17 +97,11 @@ fn run_in(
     requires { ⌜ Bodies d n (now ops) (now errors) (now choices) × (2 * length (now choices) ≤ length (now results)) × (2 * n ≤ length (now shifts)) × (2 * n ≤ length (now out)) × (now frame ≡ noFrame n) × Valid d n (now t) ⌝ }
     ensures { λ r. ⌜ record { number = r .number; place = r .place; verdict = r .verdict; left = record { tableau = now (t .exit); results = now (results .exit); shifts = now (shifts .exit); frame = now (out .exit) } } ≡ frameBodies d n (now (ops .entry)) (now (errors .entry)) (now (choices .entry)) (record { tableau = now (t .entry); results = now (results .entry); shifts = now (shifts .entry); frame = now (out .entry) }) ⌝ }
 {
-    let carried = carry(t, results, frame, ops, errors, choices, d, n);
-    let at = match carried {
-        Advanced::Next(at) => at,
-        Advanced::Refused { number, place } => {
-            return refused(number, place);
-        }
-    };
+    let place = carry(t, results, frame, ops, errors, choices, d, n);
     let verdict = shift::finish(t, shifts, out, frame, d, n);
     FrameAnswer {
         number: 0,
-        place: at.measurements,
+        place,
         verdict,
     }
 }
@@ -173,7 +153,7 @@ fn is_roomy(
         & ((measurements <= results.len() / 2) & ((2 * n <= shifts.len()) & (2 * n <= frame.len())))
 }
 
-// The frame run of a book from the lent tableau: refusals 1 to 7, then 8, then 9, then 10; or 0, the number of measurements and
+// The frame run of a book from the lent tableau: refusals 1 to 7, then 8, then 9; or 0, the number of measurements and
 // the verdict.
 pub fn frame_run(
     book: &[u8],

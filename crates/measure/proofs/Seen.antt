@@ -2,10 +2,8 @@
 -- measurement by a seen pivot leaves a valid tableau.
 -- Assumes nothing.
 use mathlib.Core.Path.{_≡_, refl, subst}
-use mathlib.Core.Bool.{Bool, true, false, cond}
 use mathlib.Core.List.{List}
 use Prim.Native.Nat.{ℕ, _<_}
-use Rattle.modular.specs.Modular.{neg}
 use Rattle.modular.specs.Dimension.{Dimension}
 use Rattle.modular.proofs.Residue.{neg-less}
 use Rattle.row.specs.Row.{phaseOf}
@@ -17,36 +15,26 @@ use Rattle.validity.specs.Validity.{Valid}
 use Rattle.validity.proofs.Exactly.{valid-tableau}
 use Rattle.even.specs.Even.{plain}
 use Rattle.even.proofs.Plain.{valid-as-plain}
+use Rattle.outcome.specs.declared.Look.{Look}
 use Rattle.outcome.specs.declared.Look.the-variants.{Free, Certain}
-use Rattle.outcome.specs.declared.Looked.{Looked}
-use Rattle.outcome.specs.declared.Looked.the-variants.{Seen, NotZ}
-use Rattle.outcome.specs.Look.{commutes, pivotOf, weighted, isZ, outcomeOf, lookBy, look}
+use Rattle.outcome.specs.Look.{commutes, pivotOf, weighted, lookBy, look}
 use Rattle.outcome.specs.Collapse.{collapse}
 use Rattle.measurement.proofs.Free.{collapse-keeps-valid}
 
-abbrev pub Fits : ℕ → ℕ → Looked → Type 0
-Fits d n (Seen (Free k)) = k < n
-Fits d n (Seen (Certain outcome)) = outcome < d
-Fits d n NotZ = Unit {0}
+abbrev pub Fits : ℕ → ℕ → Look → Type 0
+Fits d n (Free k) = k < n
+Fits d n (Certain outcome) = outcome < d
 
-outcome-fits : (d n q : ℕ) (v : List ℕ) → 0 < d → Fits d n (outcomeOf d n q v)
-unfolding outcomeOf
-outcome-fits d n q v h = by (isZ n q v)
-  where
-    by : (b : Bool) → Fits d n (cond b (Seen (Certain (neg d (phaseOf n v)))) NotZ)
-    by true = neg-less d (phaseOf n v) h
-    by false = record {}
-
-pub look-fits : (d n : ℕ) (t : List ℕ) (q : ℕ) {seen : Looked} → 0 < d → look d n t q ≡ seen → Fits d n seen
+pub look-fits : (d n : ℕ) (t : List ℕ) (q : ℕ) {seen : Look} → 0 < d → look d n t q ≡ seen → Fits d n seen
 unfolding look pivotOf
 look-fits d n t q h e = subst (Fits d n) e (by (pivotOf n t q) refl)
   where
     by : (p : Place) → pivotOf n t q ≡ p → Fits d n (lookBy d n t q p)
     by (At k) e = found-fails (commutes n t q) n k e .0
-    by Nowhere e = outcome-fits d n q (weighted d n t q) h
+    by Nowhere e = neg-less d (phaseOf n (weighted d n t q)) h
 
 pub collapse-valid : {d n q k m : ℕ} {t' : List ℕ} → Dimension d → (t : List ℕ) → Valid d n t → q < n → m < d
-    → look d n (plain d n t) q ≡ Seen (Free k)
+    → look d n (plain d n t) q ≡ Free k
     → plain d n t' ≡ collapse d n q k m (plain d n t)
     → Tableau d n t'
     → Valid d n t'

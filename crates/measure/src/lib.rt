@@ -10,7 +10,6 @@ ghost use Rattle.outcome.specs.Look.{look};
 ghost use Rattle.run.specs.Run.{noted};
 ghost use Rattle.measure.specs.Measure.{measureBy};
 use outcome::Look;
-use outcome::Looked;
 
 // Writes the result of measurement j: its outcome, then 0 certain or 1 free.
 fn note(results: &mut [u8], j: usize, outcome: u8, mark: u8)
@@ -21,7 +20,7 @@ fn note(results: &mut [u8], j: usize, outcome: u8, mark: u8)
     results[2 * j + 1] = mark;
 }
 
-// Measures qudit q; x is added to the result that is reported. False where a certain product isn't Z: nothing is changed then.
+// Measures qudit q; x is added to the result that is reported.
 pub fn measure(
     t: &mut [u8],
     results: &mut [u8],
@@ -31,13 +30,11 @@ pub fn measure(
     j: usize,
     d: u8,
     n: usize,
-) -> bool
+)
     requires { ⌜ (listed d ≡ true) × (n ≤ 64) × (q < n) × (choice < d) × (x < d) × (2 * j + 1 < length (now results)) × Valid d n (now t) ⌝ }
-    ensures { λ r. ⌜ (record { seen = r; rows = plain d n (now (t .exit)); results = now (results .exit) } ≡ measureBy d n q choice x j (plain d n (now (t .entry))) (now (results .entry)) (look d n (plain d n (now (t .entry))) q)) × Valid d n (now (t .exit)) ⌝ }
+    ensures { λ _. ⌜ (record { rows = plain d n (now (t .exit)); results = now (results .exit) } ≡ measureBy d n q choice x j (record { rows = plain d n (now (t .entry)); results = now (results .entry) }) (look d n (plain d n (now (t .entry))) q)) × Valid d n (now (t .exit)) ⌝ }
 {
-    let Looked::Seen(seen) = look::look_at(t, q, d, n) else {
-        return false;
-    };
+    let seen = look::look_at(t, q, d, n);
     match seen {
         Look::Free { pivot } => {
             collapse::collapse(t, pivot, q, choice, d, n);
@@ -47,5 +44,4 @@ pub fn measure(
             note(results, j, modular::add(d, outcome, x), 0);
         }
     }
-    true
 }

@@ -6,38 +6,36 @@ use mathlib.Core.List.{List}
 use Prim.Native.Nat.{ℕ, suc, _+_, _*_, _<_}
 use native.Mathlib.Omega.{arith}
 use lib.ListN.{getD}
-use borrow.Author.Tests.{eq-eqb}
+use borrow.Author.Tests.{ne-eqb}
 use Rattle.congruence.proofs.Congruence.{Cong, cong-eq, cong-sym, cong-trans, cong-mul-left, small-cong}
 use Rattle.stabilizer.proofs.Basis
 use Rattle.stabilizer.proofs.Member.{member-certain, member-unique}
 use Rattle.modular.specs.Modular.{neg}
 use Rattle.modular.specs.Dimension.{Dimension}
-use Rattle.row.specs.Row.{phaseOf}
+use Rattle.row.specs.Row.{xOf, phaseOf}
 use Rattle.row.specs.Generators.{unit, zWith}
 use Rattle.row.proofs.Fill.{row-power, row-phase}
 use Rattle.weyl.proofs.Reading.{bytes, reads-self, reads-cong, unique, neg-is}
-use Rattle.search.proofs.Search.{all-from}
 use Rattle.validity.specs.Validity.{Valid}
 use Rattle.outcome.specs.declared.Look.the-variants.{Certain}
-use Rattle.outcome.specs.declared.Looked.the-variants.{Seen, NotZ}
-use Rattle.outcome.specs.Look.{destabilizerPower, weighted, zByte, isZ, outcomeOf, look}
+use Rattle.outcome.specs.Look.{destabilizerPower, weighted, look}
 use Rattle.measurement.specs.Stabilizers.{Stabilizes}
-use Rattle.measurement.specs.Measurement.{AlwaysSeen, CertainExactly, OneMember}
+use Rattle.measurement.specs.Measurement.{CertainIsZ, CertainExactly, OneMember}
 use Rattle.keeping.proofs.View.{at-odd, invertible, row-of, basis, reads-z}
 use Rattle.measurement.proofs.Combination.{signs, reads-weighted, stabilizes-row, stabilizes-member}
-use Rattle.measurement.proofs.Looks.{Commuting, Looks, free, certain, looks}
+use Rattle.measurement.proofs.Looks.{Commuting, commuting-of, Looks, free, certain, looks}
 
 z-power : (n q r s : ℕ) → s < 2 * n → getD (zWith n q r) s 0 ≡ unit (n + q) s
 unfolding zWith
 z-power n q r = row-power n (unit (n + q)) r
 
+-- it has no X powers
+pub z-x : (n q r k : ℕ) → k < n → xOf (zWith n q r) k ≡ 0
+z-x n q r k l = z-power n q r k (omega arith) ∙ rw (ne-eqb k (n + q) (λ e. omega arith))
+
 pub z-phase : (n q r : ℕ) → phaseOf n (zWith n q r) ≡ r
 unfolding zWith
 z-phase n q r = row-phase n (unit (n + q)) r
-
-outcome-z : (d n q r : ℕ) → outcomeOf d n q (zWith n q r) ≡ Seen (Certain (neg d r))
-unfolding outcomeOf isZ
-outcome-z d n q r = rw (all-from (zByte n q (zWith n q r)) (2 * n) (λ s l. eq-eqb _ _ (z-power n q r s l)), z-phase n q r)
 
 -- −x settles x.
 neg-settles : (e : ℕ) {x y : ℕ} → x < suc e → y < suc e → neg (suc e) x ≡ neg (suc e) y → x ≡ y
@@ -68,19 +66,12 @@ module _ {e n : ℕ} (dim : Dimension (suc e)) {t : List ℕ} (ok : Valid (suc e
       a)
       (reads-z (omega (arith, dim .low)) n q (a .small (2 * n) (omega arith)))
 
-  pub look-certain : Commuting n t q → look d n t q ≡ Seen (Certain (neg d (fixed d n t q)))
+  pub look-certain : Commuting n t q → look d n t q ≡ Certain (neg d (fixed d n t q))
   look-certain h = go (looks d n t q)
     where
-      go : Looks d n t q → look d n t q ≡ Seen (Certain (neg d (fixed d n t q)))
+      go : Looks d n t q → look d n t q ≡ Certain (neg d (fixed d n t q))
       go (free k p x) = absurd (p .power (h k (p .number)))
-      go (certain c x) = x ∙ ap (outcomeOf d n q) (weighted-z h) ∙ outcome-z d n q (fixed d n t q)
-
-  seen : ¬ (look d n t q ≡ NotZ)
-  seen x = go (looks d n t q)
-    where
-      go : Looks d n t q → ⊥
-      go (free k p y) = let z : _≡_ {A = ℕ} 0 1 = cc in omega arith
-      go (certain c y) = let w = look-certain c in let z : _≡_ {A = ℕ} 0 1 = cc in omega arith
+      go (certain c x) = x
 
   weighted-stabilizes : Stabilizes d n t (weighted d n t q)
   unfolding weighted
@@ -110,7 +101,7 @@ module _ (f : ℕ) {n : ℕ} {t : List ℕ} (ok : Valid (suc (f + f)) n t) where
       b
 
   module _ (dim : Dimension odd) {q r : ℕ} (lq : q < n) (lr : r < odd) where
-    member-looks : Stabilizes odd n t (zWith n q r) → look odd n t q ≡ Seen (Certain (neg odd r))
+    member-looks : Stabilizes odd n t (zWith n q r) → look odd n t q ≡ Certain (neg odd r)
     member-looks s =
         let m = stabilizes-member ok positive (reads-z (omega (arith, dim .low)) n q lr) s in
         let h : Commuting n t q =
@@ -119,9 +110,9 @@ module _ (f : ℕ) {n : ℕ} {t : List ℕ} (ok : Valid (suc (f + f)) n t) where
         let same : weighted odd n t q ≡ zWith n q r =
         one (weighted-stabilizes dim ok q lq) s
         (λ i l. ap (λ (v : List ℕ). getD v i 0) (weighted-z dim ok q lq h) ∙ z-power n q _ i l ∙ sym (z-power n q r i l)) in
-        look-certain dim ok q lq h ∙ ap (λ (x : ℕ). Seen (Certain (neg odd x))) (ap (phaseOf n) same ∙ z-phase n q r)
+        look-certain dim ok q lq h ∙ ap (λ (x : ℕ). Certain (neg odd x)) (ap (phaseOf n) same ∙ z-phase n q r)
 
-    looks-member : look odd n t q ≡ Seen (Certain (neg odd r)) → Stabilizes odd n t (zWith n q r)
+    looks-member : look odd n t q ≡ Certain (neg odd r) → Stabilizes odd n t (zWith n q r)
     looks-member x = go (looks odd n t q)
       where
         go : Looks odd n t q → Stabilizes odd n t (zWith n q r)
@@ -132,12 +123,13 @@ module _ (f : ℕ) {n : ℕ} {t : List ℕ} (ok : Valid (suc (f + f)) n t) where
             let same : fixed odd n t q ≡ r = neg-settles (f + f) (reads-weighted ok positive q .small (2 * n) (omega arith)) lr opposite in
             rw (← same, ← weighted-z dim ok q lq c) (weighted-stabilizes dim ok q lq)
 
-pub always-seen : AlwaysSeen
-always-seen d n dim t ok q lq = at-odd (λ z. Valid z n t → ¬ (look z n t q ≡ NotZ)) (λ f k v. seen k v q lq) dim ok
+pub certain-is-z : CertainIsZ
+certain-is-z d n dim t ok q lq e =
+    at-odd (λ z. Valid z n t → weighted z n t q ≡ zWith n q (phaseOf n (weighted z n t q))) (λ f k v. weighted-z k v q lq (commuting-of n t q e)) dim ok
 
 pub certain-exactly : CertainExactly
 certain-exactly d n dim t ok q r lq lr =
-    at-odd (λ z. Valid z n t → r < z → Stabilizes z n t (zWith n q r) ↔ (look z n t q ≡ Seen (Certain (neg z r))))
+    at-odd (λ z. Valid z n t → r < z → Stabilizes z n t (zWith n q r) ↔ (look z n t q ≡ Certain (neg z r)))
     (λ f k v l. (member-looks f v k lq l, looks-member f v k lq l))
     dim
     ok

@@ -20,7 +20,6 @@ use Rattle.tableau.specs.Tableau.{row}
 use Rattle.tableau.proofs.Parts.{on-at}
 use Rattle.validity.specs.Validity.{Valid}
 use Rattle.outcome.specs.declared.Look.the-variants.{Free}
-use Rattle.outcome.specs.declared.Looked.the-variants.{Seen}
 use Rattle.outcome.specs.Look.{look}
 use Rattle.outcome.specs.Collapse.{collapseRow, collapse}
 use Rattle.outcome.proofs.Collapsed.{collapsed, collapsed-keeps}
@@ -36,7 +35,7 @@ pub record FreeAt (d n : ℕ) (t : List ℕ) (q k : ℕ) : Type 0 where
   pub qudit : q < n
   pub pivot : Pivot n t q k
 
-pub free-at : {d n q k : ℕ} {t : List ℕ} → Dimension d → Valid d n t → q < n → look d n t q ≡ Seen (Free k) → FreeAt d n t q k
+pub free-at : {d n q k : ℕ} {t : List ℕ} → Dimension d → Valid d n t → q < n → look d n t q ≡ Free k → FreeAt d n t q k
 free-at {d} {n} {q} {k} {t} dim ok lq x = record { dimension = dim; valid = ok; qudit = lq; pivot = look-free d n t q k x }
 
 module _ {e n : ℕ} {t : List ℕ} {q k : ℕ} (free : FreeAt (suc e) n t q k) where

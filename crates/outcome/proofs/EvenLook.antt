@@ -1,34 +1,29 @@
 -- The laws that specs/EvenLook.antt states, and that the look sees the same on a tableau with even phases.
 -- Assumes nothing.
 use mathlib.Core.Path.{_≡_, refl, sym, ap, ap₂, _∙_}
-use mathlib.Core.Bool.{Bool, true, false}
 use mathlib.Core.List.{List}
 use Prim.Native.Nat.{ℕ, zero, suc, _+_, _*_, _/_, _%_, _<_, _≤_}
 use native.Mathlib.Nat.{mod-eq-of-lt}
 use native.Mathlib.Omega.{arith}
-use lib.Dec.{eqb}
 use lib.ListN.{length}
 use lib.Seq.{getD-set-same}
-use borrow.Author.Tests.{eqb-true, ne-eqb}
 use Rattle.congruence.proofs.Congruence.{cong-eq, cong-sym, cong-trans, cong-add, cong-mul-left, small-cong}
 use Rattle.symplectic.proofs.Pairing.{half-none-left, half-none-right, pair-left, pair-scale-right}
 use Rattle.modular.specs.Dimension.{Dimension}
 use Rattle.row.specs.Row.{Row, phaseOf, xOf, zOf, dot, product, power, pairing}
 use Rattle.row.specs.Even.{turned, plainRow, added, scaled}
-use Rattle.row.specs.Generators.{unit}
 use Rattle.row.proofs.Laws.{added-row, scaled-row}
 use Rattle.weyl.specs.Scalar.{scalar}
 use Rattle.weyl.proofs.Reading.{bytes, means, means-self, reads-self, reads-row, unique, reads-phase, reads-scalar, pairing-small, pairing-means, pairing-is}
 use Rattle.weyl.proofs.Even.{reads-turned, reads-added, reads-scaled, added-product, scaled-power}
-use Rattle.search.proofs.Search.{all-at, all-same}
 use Rattle.tableau.specs.Tableau.{row}
 use Rattle.tableau.proofs.Parts.{tableau-row}
 use Rattle.validity.specs.Validity.{Valid}
 use Rattle.validity.proofs.Exactly.{valid-tableau}
 use Rattle.even.specs.Even.{plain}
 use Rattle.even.proofs.Plain.{turned-power, plain-row}
-use Rattle.outcome.specs.Look.{destabilizerPower, pivotOf, combination, weighted, zByte, isZ, outcomeOf}
-use Rattle.outcome.specs.EvenLook.{evenCombination, EvenCombination, EvenOutcome}
+use Rattle.outcome.specs.Look.{destabilizerPower, pivotOf, combination, weighted}
+use Rattle.outcome.specs.EvenLook.{evenCombination, EvenCombination}
 use Rattle.outcome.proofs.Combination.{combination-same, pivot-same}
 
 -- ω^0 has no powers, so its two phases are one.
@@ -106,41 +101,20 @@ module _ (d n : ℕ) (dim : Dimension d) (t : List ℕ) (valid : Valid d n t) (h
 pub even-combination : EvenCombination
 even-combination d n dim t valid h k l = combination-plain d n dim t valid h k l
 
-module _ (d n q : ℕ) (v : List ℕ) (r : Row d n v) where
-  z-same : isZ n q (plainRow d n v) ≡ isZ n q v
-  unfolding isZ
-  z-same = all-same _ _ (2 * n) (λ s l. ap (λ (x : ℕ). eqb x (unit (n + q) s)) (turned-power d n (d / 2 + 1) v s l))
-
-  -- Z on q has no X powers, so its two phases are one.
-  no-x : isZ n q v ≡ true → (k : ℕ) → k < n → xOf v k ≡ 0
-  unfolding isZ
-  no-x e k l = eqb-true _ _ (all-at (zByte n q v) (2 * n) e k (omega arith)) ∙ rw (ne-eqb k (n + q) (λ z. omega arith))
-
-  no-own : isZ n q v ≡ true → (k : ℕ) → k ≤ n → dot n v v k ≡ 0
+-- A row without X powers has one phase.
+module _ (d n : ℕ) {v : List ℕ} (r : Row d n v) (none : (k : ℕ) → k < n → xOf v k ≡ 0) where
+  no-own : (k : ℕ) → k ≤ n → dot n v v k ≡ 0
   unfolding dot
-  no-own e zero l = refl
-  no-own e (suc k) l = omega (arith, no-own e k (omega arith), ap (λ (x : ℕ). zOf n v k * x) (no-x e k l))
+  no-own zero l = refl
+  no-own (suc k) l = omega (arith, no-own k (omega arith), ap (λ (x : ℕ). zOf n v k * x) (none k (omega arith)))
 
-  z-phase : isZ n q v ≡ true → phaseOf n (plainRow d n v) ≡ phaseOf n v
+  pub one-phase : phaseOf n (plainRow d n v) ≡ phaseOf n v
   unfolding turned
-  z-phase e =
+  one-phase =
       getD-set-same v (2 * n) _ 0 (omega (arith, r .len))
-      ∙ ap (λ (x : ℕ). (phaseOf n v + (d / 2 + 1) * x) % d) (no-own e n (omega arith))
+      ∙ ap (λ (x : ℕ). (phaseOf n v + (d / 2 + 1) * x) % d) (no-own n (omega arith))
       ∙ ap (λ (x : ℕ). x % d) (omega arith)
       ∙ mod-eq-of-lt (r .below (2 * n) (omega arith))
-
-  outcome-plain : outcomeOf d n q v ≡ outcomeOf d n q (plainRow d n v)
-  unfolding outcomeOf
-  outcome-plain = by (isZ n q v) refl
-    where
-      by : (b : Bool) → isZ n q v ≡ b → outcomeOf d n q v ≡ outcomeOf d n q (plainRow d n v)
-      by true e = rw (z-same, e, z-phase e)
-      by false e = rw (z-same, e)
-
-pub even-outcome : EvenOutcome
-even-outcome d n dim t valid h q l =
-    outcome-plain d n q _ (even-row d n t h (omega (arith, dim .low)) n)
-    ∙ ap (outcomeOf d n q) (even-combination d n dim t valid h n (omega arith))
 
 -- The look asks the rows' X powers alone until it has the product.
 module _ (d n : ℕ) (t : List ℕ) (room : 2 * n * (2 * n + 1) ≤ length t) (q : ℕ) (l : q < n) where
@@ -153,10 +127,10 @@ module _ (d n : ℕ) (t : List ℕ) (room : 2 * n * (2 * n + 1) ≤ length t) (q
   powers-plain : (i : ℕ) → i < n → destabilizerPower n (plain d n t) q i ≡ destabilizerPower n t q i
   powers-plain i k = x-plain i (omega arith)
 
+-- The weighted product of the tableau that t stands for, with its even phase.
 pub weighted-plain : (d n : ℕ) → Dimension d → (t : List ℕ) → Valid d n t → (q : ℕ) → q < n
-    → outcomeOf d n q (evenCombination d n t (destabilizerPower n t q) n) ≡ outcomeOf d n q (weighted d n (plain d n t) q)
+    → plainRow d n (evenCombination d n t (destabilizerPower n t q) n) ≡ weighted d n (plain d n t) q
 unfolding weighted
 weighted-plain d n dim t valid q l =
-    even-outcome d n dim t valid (destabilizerPower n t q) q l
-    ∙ ap (outcomeOf d n q)
-    (sym (combination-same d n (plain d n t) (plain d n t) _ _ n (powers-plain d n t (valid .room) q l) (λ i k. refl)))
+    even-combination d n dim t valid (destabilizerPower n t q) n (omega arith)
+    ∙ sym (combination-same d n (plain d n t) (plain d n t) _ _ n (powers-plain d n t (valid .room) q l) (λ i k. refl))

@@ -7,16 +7,15 @@ use Rattle.modular.specs.Dimension.{inverse, inverseBelow}
 use Rattle.row.specs.Row.{tab, rowOf, dot, product, power}
 use Rattle.row.specs.Generators.{zWith}
 use Rattle.weyl.specs.Scalar.{scalar}
-use Rattle.search.specs.Search.{all, firstNot}
+use Rattle.search.specs.Search.{firstNot}
 use Rattle.tableau.specs.Tableau.{part, put, eachRow}
 use Rattle.outcome.specs.declared.Look.the-variants.{Free, Certain}
-use Rattle.outcome.specs.declared.Looked.the-variants.{Seen}
-use Rattle.outcome.specs.Look.{pivotOf, combination, weighted, isZ, outcomeOf, look}
+use Rattle.outcome.specs.Look.{pivotOf, combination, weighted, look}
 use Rattle.outcome.specs.Collapse.{collapseRow, collapse}
 
 -- d = 3: the stabilizer ωZ fixes the outcome −1
-certain : look 3 1 (1 ∷ 0 ∷ 0 ∷ 0 ∷ 1 ∷ 1 ∷ []) 0 ≡ Seen (Certain 2)
-unfolding look pivotOf firstNot weighted combination scalar outcomeOf isZ all part product power rowOf tab dot
+certain : look 3 1 (1 ∷ 0 ∷ 0 ∷ 0 ∷ 1 ∷ 1 ∷ []) 0 ≡ Certain 2
+unfolding look pivotOf firstNot weighted combination scalar part product power rowOf tab dot
 certain = refl
 
 -- d = 5, three qudits: stabilizers 0 and 1 have an X power on qudit 2, and the lower one is the pivot, with e = 2 and 1/e = 3
@@ -29,7 +28,7 @@ before =
     ∷ 0 ∷ 3 ∷ 3 ∷ 0 ∷ 0 ∷ 3 ∷ 3
     ∷ 0 ∷ 0 ∷ 0 ∷ 4 ∷ 4 ∷ 1 ∷ 4 ∷ []
 
-lowest : look 5 3 before 2 ≡ Seen (Free 0)
+lowest : look 5 3 before 2 ≡ Free 0
 unfolding look pivotOf firstNot part
 lowest = refl
 

@@ -1,20 +1,17 @@
 -- The look at qudit q: is its measurement free, or certain with which outcome?
-use mathlib.Core.Bool.{Bool, cond}
+use mathlib.Core.Bool.{Bool}
 use mathlib.Core.List.{List}
-use Prim.Native.Nat.{ℕ, zero, suc, _+_, _*_}
+use Prim.Native.Nat.{ℕ, zero, suc, _+_}
 use lib.Dec.{eqb}
-use lib.ListN.{getD}
 use Rattle.modular.specs.Modular.{neg}
 use Rattle.row.specs.Row.{xOf, phaseOf, product, power}
-use Rattle.row.specs.Generators.{unit}
 use Rattle.weyl.specs.Scalar.{scalar}
 use Rattle.search.specs.declared.Place.{Place}
 use Rattle.search.specs.declared.Place.the-variants.{At, Nowhere}
-use Rattle.search.specs.Search.{all, firstNot}
+use Rattle.search.specs.Search.{firstNot}
 use Rattle.tableau.specs.Tableau.{row}
+use Rattle.outcome.specs.declared.Look.{Look}
 use Rattle.outcome.specs.declared.Look.the-variants.{Free, Certain}
-use Rattle.outcome.specs.declared.Looked.{Looked}
-use Rattle.outcome.specs.declared.Looked.the-variants.{Seen, NotZ}
 
 -- the X power on q of destabilizer i, and of stabilizer i
 abbrev pub destabilizerPower : ℕ → List ℕ → ℕ → ℕ → ℕ
@@ -40,18 +37,9 @@ combination d n t h (suc i) = product d n (combination d n t h i) (power d n (h 
 unfoldable pub weighted : ℕ → ℕ → List ℕ → ℕ → List ℕ
 weighted d n t q = combination d n t (destabilizerPower n t q) n
 
-abbrev pub zByte : ℕ → ℕ → List ℕ → ℕ → Bool
-zByte n q v s = eqb (getD v s 0) (unit (n + q) s)
+abbrev pub lookBy : ℕ → ℕ → List ℕ → ℕ → Place → Look
+lookBy d n t q (At k) = Free k
+lookBy d n t q Nowhere = Certain (neg d (phaseOf n (weighted d n t q)))
 
-unfoldable pub isZ : ℕ → ℕ → List ℕ → Bool
-isZ n q v = all (zByte n q v) (2 * n)
-
-unfoldable pub outcomeOf : ℕ → ℕ → ℕ → List ℕ → Looked
-outcomeOf d n q v = cond (isZ n q v) (Seen (Certain (neg d (phaseOf n v)))) NotZ
-
-abbrev pub lookBy : ℕ → ℕ → List ℕ → ℕ → Place → Looked
-lookBy d n t q (At k) = Seen (Free k)
-lookBy d n t q Nowhere = outcomeOf d n q (weighted d n t q)
-
-unfoldable pub look : ℕ → ℕ → List ℕ → ℕ → Looked
+unfoldable pub look : ℕ → ℕ → List ℕ → ℕ → Look
 look d n t q = lookBy d n t q (pivotOf n t q)

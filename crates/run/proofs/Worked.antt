@@ -15,18 +15,18 @@ use Rattle.operation.specs.declared.WeylError.{WeylError}
 use Rattle.operation.specs.Gate.{gatePowers, gatePhase, gateRow}
 use Rattle.operation.specs.Error.{errorRow, errorFrame}
 use Rattle.circuit.specs.Circuit.{measured}
-use Rattle.outcome.specs.Look.{pivotOf, combination, weighted, isZ, outcomeOf, look}
+use Rattle.outcome.specs.Look.{pivotOf, combination, weighted, look}
 use Rattle.outcome.specs.Collapse.{collapseRow, collapse}
-use Rattle.run.specs.Run.{done, onward, noted}
-use Rattle.run.specs.Direct.{strike, directLook, directKind, directStrike, directStep, directEnd, directRun}
-use Rattle.run.specs.Frame.{Ended, noFrame, strikeFrame, shiftRow, verdictOf, framedLook, framedKind, framedStrike, framedStep, framedLeave, framedEnd, frameRunFrom, frameRun}
+use Rattle.run.specs.Run.{onward, noted}
+use Rattle.run.specs.Direct.{strike, directLook, directKind, directStrike, directStep, directRun}
+use Rattle.run.specs.Frame.{Ended, noFrame, strikeFrame, shiftRow, verdictOf, framedLook, framedKind, framedStrike, framedStep, framedAll, framedLeave, frameRunFrom, frameRun}
 use Rattle.run.specs.Raised.{carryBy, struckFrame, carried, shiftBy, resultShifts, raised}
 
 -- The frame run leaves `end` and, with the raised choices, the direct run the same rows and results. Nothing else is in the buffers.
 record Both (n : ℕ) (ops : List Operation) (errors : List WeylError) (choices second rows results : List ℕ) (end : Ended) : Type 0 where
-  framed : frameRun 3 n ops errors choices (record { rows = rows; results = results }) [] [] ≡ done end
+  framed : frameRun 3 n ops errors choices (record { rows = rows; results = results }) [] [] ≡ end
   raises : raised 3 n ops errors (noFrame n) choices ≡ second
-  struck : directRun 3 n ops errors second (record { rows = rows; results = results }) ≡ done (record { rows = end .rows; results = end .results })
+  struck : directRun 3 n ops errors second (record { rows = rows; results = results }) ≡ record { rows = end .rows; results = end .results }
 
 -- Fourier 0, SUM 0 1, then both qudits are measured; X on qudit 1 before operation 2; choices 2 and 0. The first result is free,
 -- the second certain.
@@ -64,7 +64,7 @@ Free = Both 1 (Measure 0 ∷ Fourier 0 ∷ Measure 0 ∷ []) (record { place = 2
     (record { rows = 1 ∷ 0 ∷ 0 ∷ 0 ∷ 1 ∷ 0 ∷ []; results = 0 ∷ 0 ∷ 0 ∷ 1 ∷ []; shifts = 0 ∷ 2 ∷ []; frame = 1 ∷ 0 ∷ []; verdict = 1 })
 
 worked : Book × Ends × Free
-unfolding onward noted measured frameRun frameRunFrom framedStep framedKind framedLook framedStrike framedEnd framedLeave verdictOf shiftRow strikeFrame errorFrame raised resultShifts shiftBy carried carryBy struckFrame directRun directStep directKind directLook directStrike directEnd strike errorRow look pivotOf firstNot combination weighted isZ outcomeOf all collapse collapseRow eachRow part put product power pairing scalar zWith rowOf tab dot gateRow gatePowers gatePhase inverse inverseBelow
+unfolding onward noted measured frameRun frameRunFrom framedStep framedKind framedLook framedStrike framedAll framedLeave verdictOf shiftRow strikeFrame errorFrame raised resultShifts shiftBy carried carryBy struckFrame directRun directStep directKind directLook directStrike strike errorRow look pivotOf firstNot combination weighted all collapse collapseRow eachRow part put product power pairing scalar zWith rowOf tab dot gateRow gatePowers gatePhase inverse inverseBelow
 worked = (
   record { framed = refl; raises = refl; struck = refl },
   record { framed = refl; raises = refl; struck = refl },

@@ -9,12 +9,11 @@ use Rattle.operation.specs.declared.WeylError.{WeylError}
 use Rattle.operation.specs.Gate.{gateRows}
 use Rattle.operation.specs.Error.{errorRows}
 use Rattle.circuit.specs.Circuit.{opAt, errAt, Kind, gate, measures, kind, measured}
+use Rattle.outcome.specs.declared.Look.{Look}
 use Rattle.outcome.specs.declared.Look.the-variants.{Free, Certain}
-use Rattle.outcome.specs.declared.Looked.{Looked}
-use Rattle.outcome.specs.declared.Looked.the-variants.{Seen, NotZ}
 use Rattle.outcome.specs.Look.{look}
 use Rattle.outcome.specs.Collapse.{collapse}
-use Rattle.run.specs.Run.{Run, refused, done, andThen, onward, noted}
+use Rattle.run.specs.Run.{onward, noted}
 
 pub record State : Type 0 where
   pub rows : List ℕ
@@ -28,18 +27,17 @@ strike d n errors k t (suc j) =
 
 module _ (d n : ℕ) (choices : List ℕ) where
   -- Measurement j, of qudit q, takes choice j, whether it is used or not. A result is the measurement's outcome.
-  unfoldable pub directLook : ℕ → ℕ → State → Looked → Run State
-  directLook j q st (Seen (Free k)) =
-      done (record { rows = collapse d n q k (getD choices j 0) (st .rows); results = noted (st .results) j (getD choices j 0) 1 })
-  directLook j q st (Seen (Certain outcome)) = done (record { rows = st .rows; results = noted (st .results) j outcome 0 })
-  directLook j q st NotZ = refused j (st .rows) (st .results)
+  unfoldable pub directLook : ℕ → ℕ → State → Look → State
+  directLook j q st (Free k) =
+      record { rows = collapse d n q k (getD choices j 0) (st .rows); results = noted (st .results) j (getD choices j 0) 1 }
+  directLook j q st (Certain outcome) = record { rows = st .rows; results = noted (st .results) j outcome 0 }
 
   -- an operation done on the rows, j measurements having come before it
-  unfoldable pub directKind : ℕ → State → Operation → Kind → Run State
-  directKind j st op gate = done (record { rows = gateRows d n op (st .rows); results = st .results })
+  unfoldable pub directKind : ℕ → State → Operation → Kind → State
+  directKind j st op gate = record { rows = gateRows d n op (st .rows); results = st .results }
   directKind j st op (measures q) = directLook j q st (look d n (st .rows) q)
 
-  abbrev pub directOperation : ℕ → State → Operation → Run State
+  abbrev pub directOperation : ℕ → State → Operation → State
   directOperation j st op = directKind j st op (kind op)
 
 module _ (d n : ℕ) (ops : List Operation) (errors : List WeylError) (choices : List ℕ) where
@@ -48,12 +46,9 @@ module _ (d n : ℕ) (ops : List Operation) (errors : List WeylError) (choices :
   directStrike k st = record { rows = strike d n errors k (st .rows) (length errors); results = st .results }
 
   -- Before operation k, each error of place k is applied to every row; then operation k is done on the rows.
-  unfoldable pub directStep : ℕ → State → Run State
+  unfoldable pub directStep : ℕ → State → State
   directStep k st = directOperation d n choices (measured ops k) (directStrike k st) (opAt ops k)
 
   -- Errors placed after all operations come last.
-  unfoldable pub directEnd : State → Run State
-  directEnd st = done (directStrike (length ops) st)
-
-  unfoldable pub directRun : State → Run State
-  directRun st = andThen (onward directStep 0 st (length ops)) directEnd
+  unfoldable pub directRun : State → State
+  directRun st = directStrike (length ops) (onward directStep 0 st (length ops))

@@ -12,12 +12,11 @@ use Rattle.operation.specs.declared.WeylError.{WeylError}
 use Rattle.operation.specs.Gate.{withPhase, gateRows, gateFrame}
 use Rattle.operation.specs.Error.{errorFrame}
 use Rattle.circuit.specs.Circuit.{opAt, errAt, Kind, gate, measures, kind, measured}
+use Rattle.outcome.specs.declared.Look.{Look}
 use Rattle.outcome.specs.declared.Look.the-variants.{Free, Certain}
-use Rattle.outcome.specs.declared.Looked.{Looked}
-use Rattle.outcome.specs.declared.Looked.the-variants.{Seen, NotZ}
 use Rattle.outcome.specs.Look.{look}
 use Rattle.outcome.specs.Collapse.{collapse}
-use Rattle.run.specs.Run.{Run, refused, done, andThen, onward, noted}
+use Rattle.run.specs.Run.{onward, noted}
 use Rattle.run.specs.Direct.{State}
 
 -- One X power and one Z power per qudit, 0 at first.
@@ -62,26 +61,22 @@ pub record Ended : Type 0 where
 
 module _ (d n : ℕ) (choices : List ℕ) where
   -- The reported result is the clean one plus the frame's X power on q; the frame stays.
-  unfoldable pub framedLook : ℕ → ℕ → Framed → Looked → Run Framed
-  framedLook j q st (Seen (Free k)) =
-      done (
+  unfoldable pub framedLook : ℕ → ℕ → Framed → Look → Framed
+  framedLook j q st (Free k) =
       record {
         rows = collapse d n q k (getD choices j 0) (st .rows);
         results = noted (st .results) j ((getD choices j 0 + xOf (st .frame) q) % d) 1;
         frame = st .frame;
       }
-      )
-  framedLook j q st (Seen (Certain outcome)) =
-      done (record { rows = st .rows; results = noted (st .results) j ((outcome + xOf (st .frame) q) % d) 0; frame = st .frame })
-  framedLook j q st NotZ = refused j (st .rows) (st .results)
+  framedLook j q st (Certain outcome) =
+      record { rows = st .rows; results = noted (st .results) j ((outcome + xOf (st .frame) q) % d) 0; frame = st .frame }
 
   -- A gate is done on the rows and on the frame, a measurement on the rows alone.
-  unfoldable pub framedKind : ℕ → Framed → Operation → Kind → Run Framed
-  framedKind j st op gate =
-      done (record { rows = gateRows d n op (st .rows); results = st .results; frame = gateFrame d n op (st .frame) })
+  unfoldable pub framedKind : ℕ → Framed → Operation → Kind → Framed
+  framedKind j st op gate = record { rows = gateRows d n op (st .rows); results = st .results; frame = gateFrame d n op (st .frame) }
   framedKind j st op (measures q) = framedLook j q st (look d n (st .rows) q)
 
-  abbrev pub framedOperation : ℕ → Framed → Operation → Run Framed
+  abbrev pub framedOperation : ℕ → Framed → Operation → Framed
   framedOperation j st op = framedKind j st op (kind op)
 
 module _ (d n : ℕ) (ops : List Operation) (errors : List WeylError) (choices : List ℕ) where
@@ -90,13 +85,16 @@ module _ (d n : ℕ) (ops : List Operation) (errors : List WeylError) (choices :
   framedStrike k st =
       record { rows = st .rows; results = st .results; frame = strikeFrame d n errors k (st .frame) (length errors) }
 
-  unfoldable pub framedStep : ℕ → Framed → Run Framed
+  unfoldable pub framedStep : ℕ → Framed → Framed
   framedStep k st = framedOperation d n choices (measured ops k) (framedStrike k st) (opAt ops k)
 
-  -- At the end the shifts are added; shifts and frame are written to their buffers.
-  unfoldable pub framedLeave : List ℕ → List ℕ → Framed → Run Ended
+  -- all operations, then the errors after them
+  unfoldable pub framedAll : Framed → Framed
+  framedAll st = framedStrike (length ops) (onward framedStep 0 st (length ops))
+
+  -- At the end, after the last error, the shifts are added; shifts and frame are written to their buffers.
+  unfoldable pub framedLeave : List ℕ → List ℕ → Framed → Ended
   framedLeave shifts frame st =
-      done (
       record {
         rows = shiftRows d n (st .frame) (st .rows);
         results = st .results;
@@ -104,17 +102,10 @@ module _ (d n : ℕ) (ops : List Operation) (errors : List WeylError) (choices :
         frame = st .frame ++ drop (2 * n) frame;
         verdict = verdictOf d n (st .frame) (st .rows);
       }
-      )
-
-  -- The shifts are added after the last error.
-  unfoldable pub framedEnd : List ℕ → List ℕ → Framed → Run Ended
-  framedEnd shifts frame st = framedLeave shifts frame (framedStrike (length ops) st)
 
   -- from any frame F; the frame run begins with no powers
-  unfoldable pub frameRunFrom : List ℕ → State → List ℕ → List ℕ → Run Ended
-  frameRunFrom F st shifts frame =
-      andThen (onward framedStep 0 (record { rows = st .rows; results = st .results; frame = F }) (length ops))
-      (framedEnd shifts frame)
+  unfoldable pub frameRunFrom : List ℕ → State → List ℕ → List ℕ → Ended
+  frameRunFrom F st shifts frame = framedLeave shifts frame (framedAll (record { rows = st .rows; results = st .results; frame = F }))
 
-  unfoldable pub frameRun : State → List ℕ → List ℕ → Run Ended
+  unfoldable pub frameRun : State → List ℕ → List ℕ → Ended
   frameRun st shifts frame = frameRunFrom (noFrame n) st shifts frame

@@ -15,6 +15,11 @@ pub both : (a b : Bool) → a && b ≡ true → (a ≡ true) × (b ≡ true)
 both true b e = (refl, e)
 both false b e = absurd (false≢true e)
 
+-- what holds of the refusal where the test fails, and of the rest where it is met, holds of the answer
+pub unless-cases : {A : Type 0} {bad rest : A} (P : A → Type 0) (t : Bool) → (t ≡ false → P bad) → (t ≡ true → P rest) → P (unless t bad rest)
+unless-cases P true f g = g refl
+unless-cases P false f g = f refl
+
 -- where a test's refusal is not the answer, the test was met
 pub met : {A : Type 0} {bad rest good : A} (t : Bool) → bad ≢ good → unless t bad rest ≡ good → (t ≡ true) × (rest ≡ good)
 met true n e = (refl, e)

@@ -332,37 +332,31 @@ impl Powers {
     }
 }
 
-/// A measurement: the outcome and the mark, or None for refusal 10.
+/// A measurement: the outcome and the mark.
 fn measure(
     rows: &mut [u8],
     n: usize,
     (q, choice): (usize, u8),
     m: &Modulo,
     powers: &mut Powers,
-) -> Option<[u8; 2]> {
+) -> [u8; 2] {
     let w = 2 * n + 1;
     let mut stabilizers = rows[n * w..].chunks_exact(w);
     let Some(k) = stabilizers.position(|row| row[q] != 0) else {
-        return Some([certain(rows, n, q, m)?, 0]);
+        return [certain(rows, n, q, m), 0];
     };
     collapse(rows, n, (q, k, choice), m, powers);
-    Some([choice, 1])
+    [choice, 1]
 }
 
-/// The outcome that the weighted product of the stabilizers fixes, if it is Z on q.
-fn certain(rows: &[u8], n: usize, q: usize, m: &Modulo) -> Option<u8> {
+/// The outcome that the weighted product of the stabilizers fixes. It is Z on q, so that its phase
+/// is all there is to make.
+fn certain(rows: &[u8], n: usize, q: usize, m: &Modulo) -> u8 {
     let w = 2 * n + 1;
     let (destabilizers, stabilizers) = rows.split_at(n * w);
-    let mut sums = [0; POWERS + 1];
-    for &(i, h) in changing(destabilizers, w, q, m.times(1)).as_slice() {
-        let stabilizer = &stabilizers[usize::from(i) * w..];
-        for (sum, &x) in sums[..w].iter_mut().zip(stabilizer) {
-            *sum += u16::from(h) * u16::from(x);
-        }
-    }
-    sums[n + q] += u16::from(m.d) - 1;
-    let others = sums[..2 * n].iter().fold(0, |or, &x| or | m.reduce(x));
-    (others == 0).then(|| m.rest(m.reduce(sums[2 * n]).wrapping_neg()))
+    let pairs = destabilizers.chunks_exact(w).zip(stabilizers.chunks_exact(w));
+    let sum = pairs.map(|(power, phase)| u16::from(power[q]) * u16::from(phase[2 * n])).sum();
+    m.rest(m.reduce(sum).wrapping_neg())
 }
 
 /// The rows whose power on q is not 0, each with its exponent.
@@ -572,12 +566,13 @@ pub fn direct_run(book: &[u8], tableau: &mut [u8], results: &mut [u8]) -> Told {
     }
     let modulo = Modulo::new(book.d);
     turn_phases(rows, book.n, book.d / 2, &modulo);
-    let told = strike_along(&book, rows, results, &modulo);
+    let measurements = strike_along(&book, rows, results, &modulo);
     turn_phases(rows, book.n, book.d / 2 + 1, &modulo);
-    told
+    (0, measurements)
 }
 
-fn strike_along(book: &Book, rows: &mut [u8], results: &mut [u8], modulo: &Modulo) -> Told {
+/// All operations and errors of a direct run. How many measurements there were.
+fn strike_along(book: &Book, rows: &mut [u8], results: &mut [u8], modulo: &Modulo) -> usize {
     let (n, mut errors, mut done) = (book.n, book.errors, 0);
     let mut powers = Powers::new();
     for (k, entry) in book.operations.chunks_exact(4).enumerate() {
@@ -589,16 +584,14 @@ fn strike_along(book: &Book, rows: &mut [u8], results: &mut [u8], modulo: &Modul
             continue;
         }
         let measured = (entry[1].into(), book.choices[done]);
-        let Some(result) = measure(rows, n, measured, modulo, &mut powers) else {
-            return (10, done);
-        };
+        let result = measure(rows, n, measured, modulo, &mut powers);
         results[2 * done..2 * done + 2].copy_from_slice(&result);
         done += 1;
     }
     for error in errors.chunks_exact(5) {
         strike(rows, n, error, modulo);
     }
-    (0, done)
+    done
 }
 
 /// The frame run: errors change the frame alone. The third number is the verdict.
@@ -623,23 +616,21 @@ pub fn frame_run(
     let modulo = Modulo::new(d);
     let mut carried = [0; POWERS + 1];
     turn_phases(rows, n, d / 2, &modulo);
-    let (number, place) = carry_along(&book, rows, results, &mut carried[..2 * n + 1], &modulo);
+    let measurements = carry_along(&book, rows, results, &mut carried[..2 * n + 1], &modulo);
     turn_phases(rows, n, d / 2 + 1, &modulo);
-    if number != 0 {
-        return (number, place, 0);
-    }
     frame.copy_from_slice(&carried[..2 * n]);
     let verdict = shift(rows, n, &carried, shifts, &modulo);
-    (0, place, verdict)
+    (0, measurements, verdict)
 }
 
+/// All operations and errors of a frame run. How many measurements there were.
 fn carry_along(
     book: &Book,
     rows: &mut [u8],
     results: &mut [u8],
     frame: &mut [u8],
     modulo: &Modulo,
-) -> Told {
+) -> usize {
     let (n, mut errors, mut done) = (book.n, book.errors, 0);
     let mut powers = Powers::new();
     for (k, entry) in book.operations.chunks_exact(4).enumerate() {
@@ -653,9 +644,7 @@ fn carry_along(
         }
         let q = usize::from(entry[1]);
         let measured = (q, book.choices[done]);
-        let Some([clean, mark]) = measure(rows, n, measured, modulo, &mut powers) else {
-            return (10, done);
-        };
+        let [clean, mark] = measure(rows, n, measured, modulo, &mut powers);
         let reported = add(modulo.d, clean, frame[q]);
         results[2 * done..2 * done + 2].copy_from_slice(&[reported, mark]);
         done += 1;
@@ -663,7 +652,7 @@ fn carry_along(
     for error in errors.chunks_exact(5) {
         carry(frame, n, error, modulo.d);
     }
-    (0, done)
+    done
 }
 
 /// The error joins the frame.

@@ -195,7 +195,8 @@ pub struct Run {
 }
 
 /// Runs the book on copies of the buffers, by the library and by the plain reference, which must
-/// agree in each number and byte. A refusal must leave every byte, and no run may touch the book.
+/// agree in each number and byte. A refusal must leave every byte, what a run leaves must pass the
+/// test, and no run may touch the book.
 pub fn run_both(book: &[u8], tableau: &[u8], results: &[u8]) -> Run {
     let lent = book.to_vec();
     let (mut by_library, mut by_plain) = (
@@ -215,12 +216,19 @@ pub fn run_both(book: &[u8], tableau: &[u8], results: &[u8]) -> Run {
     if answer.0 != 0 {
         assert!(by_library.0 == tableau, "{answer:?} changed the tableau");
         assert!(by_library.1 == results, "{answer:?} changed the results");
+    } else {
+        assert_eq!(test_of(book, &by_library.0), (0, 0), "after {book:02x?}");
     }
     Run {
         told: answer,
         tableau: by_library.0,
         results: by_library.1,
     }
+}
+
+/// Tests a tableau for the dimension and the qudits of an accepted book, by both.
+pub fn test_of(book: &[u8], tableau: &[u8]) -> plain::Told {
+    test_both(tableau, book[1].into(), book[2].into())
 }
 
 /// Lays the zero tableau on a copy of the buffer by both, which must agree; a refusal must leave it.

@@ -225,10 +225,10 @@ pub enum Look {
     Free(usize),
     /// With its outcome.
     Certain(i64),
-    /// A certain product that is not Z on the qudit: refusal 10.
-    NotZ,
 }
 
+/// The look at q of a valid tableau. That a certain product is Z on q is proved of the library's
+/// definitions; here it is tested each time.
 pub fn look(d: i64, n: usize, rows: &[Row], q: usize) -> Look {
     if let Some(k) = (0..n).find(|&k| rows[n + k].a[q] != 0) {
         return Look::Free(k);
@@ -237,12 +237,8 @@ pub fn look(d: i64, n: usize, rows: &[Row], q: usize) -> Look {
     for i in 0..n {
         whole = product(d, &whole, &power(d, &rows[n + i], rows[i].a[q]));
     }
-    let outcome = modulo(d, -whole.r);
-    if whole == z_on(n, q, whole.r) {
-        Look::Certain(outcome)
-    } else {
-        Look::NotZ
-    }
+    assert_eq!(whole, z_on(n, q, whole.r), "a certain product is Z on q");
+    Look::Certain(modulo(d, -whole.r))
 }
 
 /// The rows after a free measurement of q with pivot k and outcome m.
@@ -261,15 +257,14 @@ pub fn collapse(d: i64, n: usize, rows: &mut [Row], q: usize, k: usize, m: i64) 
     }
 }
 
-/// Measures q: the outcome and the mark, or None for refusal 10.
-fn measure(d: i64, n: usize, rows: &mut [Row], q: usize, choice: i64) -> Option<[u8; 2]> {
+/// Measures q: the outcome and the mark.
+fn measure(d: i64, n: usize, rows: &mut [Row], q: usize, choice: i64) -> [u8; 2] {
     match look(d, n, rows, q) {
         Look::Free(k) => {
             collapse(d, n, rows, q, k, choice);
-            Some([choice as u8, 1])
+            [choice as u8, 1]
         }
-        Look::Certain(outcome) => Some([outcome as u8, 0]),
-        Look::NotZ => None,
+        Look::Certain(outcome) => [outcome as u8, 0],
     }
 }
 
@@ -448,10 +443,7 @@ pub fn direct_run(book: &[u8], tableau: &mut [u8], results: &mut [u8]) -> Told {
         match book.operations.get(k) {
             None => {}
             Some(&Op::Measure(q)) => {
-                let Some(result) = measure(d, n, &mut rows, q, book.choices[done]) else {
-                    tableau[..tableau_len(n)].copy_from_slice(&bytes_of(&rows));
-                    return (10, done);
-                };
+                let result = measure(d, n, &mut rows, q, book.choices[done]);
                 results[2 * done..2 * done + 2].copy_from_slice(&result);
                 done += 1;
             }
@@ -485,30 +477,16 @@ pub fn frame_run(
     }
     let mut rows = rows_of(n, tableau);
     let mut carried = identity(n);
-    let run = carry_all(&book, &mut rows, &mut carried, results);
-    let verdict = match run {
-        Ok(_) => shift_all(d, &carried, &mut rows, shifts),
-        Err(_) => 0,
-    };
+    let measurements = carry_all(&book, &mut rows, &mut carried, results);
+    let verdict = shift_all(d, &carried, &mut rows, shifts);
     tableau[..tableau_len(n)].copy_from_slice(&bytes_of(&rows));
-    match run {
-        Err(measurement) => (10, measurement, 0),
-        Ok(measurements) => {
-            // A frame has no phase: the last byte of its row is left off.
-            frame[..2 * n].copy_from_slice(&bytes_of(&[carried])[..2 * n]);
-            (0, measurements, verdict)
-        }
-    }
+    // A frame has no phase: the last byte of its row is left off.
+    frame[..2 * n].copy_from_slice(&bytes_of(&[carried])[..2 * n]);
+    (0, measurements, verdict)
 }
 
-/// All operations and errors of a frame run; how many measurements there were, or the one whose
-/// product isn't Z.
-fn carry_all(
-    book: &Book,
-    rows: &mut [Row],
-    carried: &mut Row,
-    results: &mut [u8],
-) -> Result<usize, usize> {
+/// All operations and errors of a frame run. How many measurements there were.
+fn carry_all(book: &Book, rows: &mut [Row], carried: &mut Row, results: &mut [u8]) -> usize {
     let d = book.d;
     let mut done = 0;
     for k in 0..=book.operations.len() {
@@ -518,8 +496,7 @@ fn carry_all(
         match book.operations.get(k) {
             None => {}
             Some(&Op::Measure(q)) => {
-                let result = measure(d, book.n, rows, q, book.choices[done]);
-                let [clean, mark] = result.ok_or(done)?;
+                let [clean, mark] = measure(d, book.n, rows, q, book.choices[done]);
                 results[2 * done] = ((i64::from(clean) + carried.a[q]) % d) as u8;
                 results[2 * done + 1] = mark;
                 done += 1;
@@ -530,7 +507,7 @@ fn carry_all(
             }
         }
     }
-    Ok(done)
+    done
 }
 
 /// Adds each row's shift to its phase. The verdict.

@@ -1,7 +1,7 @@
 -- `direct::run_even` meets its contract.
 -- Assumes nothing.
 use mathlib.Core.Path.{_≡_, refl}
-use Prim.Native.Nat.{_-_, _<_, _≤_}
+use Prim.Native.Nat.{_-_, _≤_}
 use native.Mathlib.Omega.{arith}
 use denote.Ref.{now}
 use lib.ListN.{length}
@@ -11,8 +11,8 @@ use Rattle.even.specs.Even.{plain}
 use Rattle.book.specs.Decoded.{operationsOf, errorsOf}
 use Rattle.book.proofs.Lists.{op-count}
 use Rattle.run.specs.Direct.{directStep}
-use Rattle.measure.proofs.Going.{Going, going-start, going-on, going-stops, going-ends}
-use Rattle.direct.proofs.Answers.{run-refused, run-done}
+use Rattle.measure.proofs.Going.{Going, going-start, going-on, going-ends}
+use Rattle.direct.proofs.Answers.{run-done}
 use Rattle.direct.proofs.run_even.Statement.{statement}
 use Rattle.direct.proofs.run_even.Tie as tie
 
@@ -38,67 +38,47 @@ advance-requires c κs =
     let l = c .before .before .before in
     let s = l .before .before .before .before .before .before in
     let i = l .loop .inv in
-    (c .before .before .loop-test .taken, s .pre .0, i .0 .reached, i .0 .count, omega (arith, i .4), i .2)
-
-enum-known-advanced : tie.Need-enum-known-advanced Inv-loop μ-loop
-enum-known-advanced c = search needs
-
-enum-known-advanced-2 : tie.Need-enum-known-advanced-2 Inv-loop μ-loop
-enum-known-advanced-2 c = search needs
-
-same-length : tie.Need-same-length Inv-loop μ-loop
-same-length c = search needs
-
-same-length-2 : tie.Need-same-length-2 Inv-loop μ-loop
-same-length-2 c = search needs
-
-returns : tie.Need-returns Inv-loop μ-loop
-returns c =
-    let v = c .before .before .before .before .before .before .before in
-    let l = v .before .before .before .before in
-    let a = l .before .before .before .before .before .before .args in
-    let ops = operationsOf (a .d) (a .n) (now (a .ops)) in
-    let in-list : l .loop .k < length ops = omega (arith, op-count (a .d) (a .n) (now (a .ops))) in
-    let after = rw (c .before .advanced2 .given .1) at (v .advance .ensures) in
-    let told = going-stops _ _ _ _ (l .loop .inv .0) in-list (after .0) in
-    (run-refused (a .d) (a .n) ops (errorsOf (now (a .errors))) (now (a .choices)) _ (after .1) told, after .2)
+    (c .before .before .loop-test .taken, s .pre .0, i .0 .stands, omega (arith, i .4), i .2)
 
 add-k : tie.Need-add-k Inv-loop μ-loop
-add-k c = search needs
+add-k c =
+    search needs
 
 loop-less : tie.Need-loop-less Inv-loop μ-loop
-loop-less c = search needs
+loop-less c =
+    search needs
 
 loop-again : tie.Need-loop-again Inv-loop μ-loop
 loop-again c =
-    let v = c .before .before .before .before .before .before .before in
+    let v = c .before .before .before .before in
     let l = v .before .before .before .before in
-    let answer = c .before .advanced .given in
-    let after = rw (answer .1) at (v .advance .ensures) in
-    (going-on _ _ _ _ (l .loop .inv .0) (answer .0 .0) (after .0) (after .1), omega arith, after .2, omega arith, omega arith)
+    let after = v .advance .ensures in
+    (going-on _ _ _ _ (l .loop .inv .0) (after .0) (after .1), omega arith, after .2, omega arith, omega arith)
 
 strike-requires : tie.Need-strike-requires Inv-loop μ-loop
 strike-requires c κs =
     let l = c .before .before in
     let s = l .before .before .before .before .before .before in
     let i = l .loop .inv in
-    (s .pre .0 .dimension, s .pre .0 .qudits, i .2, i .0 .reached, s .pre .0 .lists .strikes)
+    (s .pre .0 .dimension, s .pre .0 .qudits, i .2, i .0 .stands .reached, s .pre .0 .lists .strikes)
 
-same-length-3 : tie.Need-same-length-3 Inv-loop μ-loop
-same-length-3 c = search needs
+same-length : tie.Need-same-length Inv-loop μ-loop
+same-length c =
+    search needs
 
-same-length-4 : tie.Need-same-length-4 Inv-loop μ-loop
-same-length-4 c = search needs
+same-length-2 : tie.Need-same-length-2 Inv-loop μ-loop
+same-length-2 c =
+    search needs
 
-returns-2 : tie.Need-returns-2 Inv-loop μ-loop
-returns-2 c =
+returns : tie.Need-returns Inv-loop μ-loop
+returns c =
     let k = c .before .before in
     let l = k .before .before .before in
     let a = l .before .before .before .before .before .before .args in
     let ops = operationsOf (a .d) (a .n) (now (a .ops)) in
     let all : length ops ≡ l .loop .k = omega (arith, op-count (a .d) (a .n) (now (a .ops))) in
     let g = going-ends _ _ _ _ (l .loop .inv .0) (omega arith) (omega arith) in
-    (run-done (a .d) (a .n) ops (errorsOf (now (a .errors))) (now (a .choices)) _ (g .count) (g .so-far) (rw all (k .strike .ensures .0)), k .strike .ensures .1)
+    (run-done (a .d) (a .n) ops (errorsOf (now (a .errors))) (now (a .choices)) _ (g .stands .count) (g .so-far) (rw all (k .strike .ensures .0)), k .strike .ensures .1)
 
 pub run-even-spec : {M : Type 1} → statement M
 run-even-spec =
@@ -108,15 +88,10 @@ run-even-spec =
     μ-loop
     loop-holds
     advance-requires
-    enum-known-advanced
-    enum-known-advanced-2
-    same-length
-    same-length-2
-    returns
     add-k
     loop-less
     loop-again
     strike-requires
-    same-length-3
-    same-length-4
-    returns-2)
+    same-length
+    same-length-2
+    returns)

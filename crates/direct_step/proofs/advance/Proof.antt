@@ -1,12 +1,11 @@
 -- `direct_step::advance` meets its contract.
 -- Assumes nothing.
-use mathlib.Core.Path.{refl, ap}
+use mathlib.Core.Path.{ap}
 use Prim.Native.Nat.{_<_}
 use native.Mathlib.Omega.{arith}
 use denote.Ref.{now}
 use lib.ListN.{length}
 use borrow.Author.Needs.{needs}
-use borrow.Author.Tests.{not-true, not-false}
 use Rattle.even.specs.Even.{plain}
 use Rattle.circuit.specs.Circuit.{tally}
 use Rattle.book.specs.Decoded.{operationsOf, errorsOf}
@@ -17,9 +16,7 @@ use Rattle.direct_step.proofs.advance.Statement.{statement}
 use Rattle.direct_step.proofs.advance.Tie as tie
 
 strike-requires : tie.Need-strike-requires
-strike-requires c κs =
-    let s = c .before .before .before .before .before .before in
-    (s .pre .1 .dimension, s .pre .1 .qudits, s .pre .5, s .pre .2, s .pre .1 .lists .strikes)
+strike-requires c κs = search needs
 
 step-at-requires : tie.Need-step-at-requires
 step-at-requires c κs = search needs
@@ -51,11 +48,25 @@ perform-requires c κs =
       s .pre .1 .dimension,
       s .pre .1 .qudits,
       rw (← o) (s .pre .1 .lists .operations (a .k) k-in),
-      omega (arith, s .pre .3, choice-left (s .pre .1 .lists) (a .k) k-in, ap tally o),
-      s .pre .4,
+      omega (arith, s .pre .2 .count, choice-left (s .pre .1 .lists) (a .k) k-in, ap tally o),
+      s .pre .3,
       s .pre .1 .lists .below,
       p .before .before .before .strike .ensures .1,
     )
+
+tally-requires : tie.Need-tally-requires
+tally-requires c κs = search needs
+
+add-measurements : tie.Need-add-measurements
+add-measurements c =
+    let m = c .before .before .before .before .before .before .before .before .before in
+    let p = m .before .before in
+    let s = p .before .before .before .before .before .before .before .before .before .before in
+    let a = s .args in
+    let ops = operationsOf (a .d) (a .n) (now (a .ops)) in
+    let o = step-taken (a .d) (a .n) (now (a .ops)) (a .k) (s .pre .0) (p .step-at .ensures) (m .step .given .1) in
+    let k-in : a .k < length ops = omega (arith, s .pre .0, op-count (a .d) (a .n) (now (a .ops))) in
+    omega (arith, c .tally .ensures .0, s .pre .2 .count, choice-left (s .pre .1 .lists) (a .k) k-in, ap tally o)
 
 same-length-2 : tie.Need-same-length-2
 same-length-2 c = search needs
@@ -71,45 +82,10 @@ returns-2 c =
     let k = p .before .before .before in
     let s = k .before .before .before .before .before .before .before in
     let a = s .args in
-    let o = step-taken (a .d) (a .n) (now (a .ops)) (a .k) (s .pre .0) (p .step-at .ensures) (m .step .given .1) in (
-      step-is (a .d) (a .n) (operationsOf (a .d) (a .n) (now (a .ops))) (errorsOf (now (a .errors))) (now (a .choices)) (a .k) (plain (a .d) (a .n) (now (a .t))) (now (a .results)) o (s .pre .3) (k .strike .ensures .0) (rw (not-true (f .perform .result) (c .if1 .taken)) at (f .perform .ensures .0)),
-      refl,
-      f .perform .ensures .1,
-      f .perform .ensures .2,
-    )
-
-tally-requires : tie.Need-tally-requires
-tally-requires c κs = search needs
-
-add-measurements : tie.Need-add-measurements
-add-measurements c =
-    let m = c .before .before .before .before .before .before .before .before .before .before in
-    let p = m .before .before in
-    let s = p .before .before .before .before .before .before .before .before .before .before in
-    let a = s .args in
-    let ops = operationsOf (a .d) (a .n) (now (a .ops)) in
-    let o = step-taken (a .d) (a .n) (now (a .ops)) (a .k) (s .pre .0) (p .step-at .ensures) (m .step .given .1) in
-    let k-in : a .k < length ops = omega (arith, s .pre .0, op-count (a .d) (a .n) (now (a .ops))) in
-    omega (arith, c .tally .ensures .0, s .pre .3, choice-left (s .pre .1 .lists) (a .k) k-in, ap tally o)
-
-same-length-4 : tie.Need-same-length-4
-same-length-4 c = search needs
-
-same-length-5 : tie.Need-same-length-5
-same-length-5 c = search needs
-
-returns-3 : tie.Need-returns-3
-returns-3 c =
-    let f = c .before .before .before .before .before .before in
-    let m = f .before .before .before .before in
-    let p = m .before .before in
-    let k = p .before .before .before in
-    let s = k .before .before .before .before .before .before .before in
-    let a = s .args in
     let ops = operationsOf (a .d) (a .n) (now (a .ops)) in
     let o = step-taken (a .d) (a .n) (now (a .ops)) (a .k) (s .pre .0) (p .step-at .ensures) (m .step .given .1) in (
-      step-is (a .d) (a .n) (operationsOf (a .d) (a .n) (now (a .ops))) (errorsOf (now (a .errors))) (now (a .choices)) (a .k) (plain (a .d) (a .n) (now (a .t))) (now (a .results)) o (s .pre .3) (k .strike .ensures .0) (rw (not-false (f .perform .result) (c .before .if1 .left)) at (f .perform .ensures .0)),
-      (k .strike .ensures .2, omega (arith, c .tally .ensures .0, s .pre .3, measured-step ops (a .k), ap tally o)),
+      step-is (a .d) (a .n) (operationsOf (a .d) (a .n) (now (a .ops))) (errorsOf (now (a .errors))) (now (a .choices)) (a .k) (plain (a .d) (a .n) (now (a .t))) (now (a .results)) o (s .pre .2 .count) (k .strike .ensures .0) (f .perform .ensures .0),
+      record { reached = k .strike .ensures .2; count = omega (arith, c .tally .ensures .0, s .pre .2 .count, measured-step ops (a .k), ap tally o) },
       f .perform .ensures .1,
       f .perform .ensures .2,
     )
@@ -125,11 +101,8 @@ advance-spec =
     same-length
     returns
     perform-requires
-    same-length-2
-    same-length-3
-    returns-2
     tally-requires
     add-measurements
-    same-length-4
-    same-length-5
-    returns-3)
+    same-length-2
+    same-length-3
+    returns-2)

@@ -1,5 +1,6 @@
 -- `direct_step::perform` meets its contract.
 -- Assumes nothing.
+use mathlib.Core.Path.{_∙_}
 use Prim.Native.Nat.{_+_, _≤_}
 use native.Mathlib.Omega.{arith}
 use denote.Ref.{now}
@@ -56,8 +57,8 @@ returns c =
     let dim = dimension (a .d) (s .pre .0) in
     let below = s .pre .5 (a .j) (omega arith) in (
       rw (o .operation .given .1)
-          (measured-so (a .d) (a .n) (now (a .choices)) (a .j) (o .operation .given .0 .0) (plain (a .d) (a .n) (now (a .t))) (now (a .results)) below (omega arith)
-          (m .measure .ensures .0)),
+          (m .measure .ensures .0
+          ∙ measured-so (a .d) (a .n) (now (a .choices)) (a .j) (o .operation .given .0 .0) (record { rows = plain (a .d) (a .n) (now (a .t)); results = now (a .results) }) below (omega arith)),
       m .measure .ensures .1,
       search needs,
     )

@@ -1,12 +1,11 @@
 -- `frame_step::advance` meets its contract.
 -- Assumes nothing.
-use mathlib.Core.Path.{refl, ap, _∙_}
+use mathlib.Core.Path.{ap, _∙_}
 use Prim.Native.Nat.{_<_}
 use native.Mathlib.Omega.{arith}
 use denote.Ref.{now}
 use lib.ListN.{length}
 use borrow.Author.Needs.{needs}
-use borrow.Author.Tests.{not-true, not-false}
 use Rattle.modular.proofs.Listed.{dimension}
 use Rattle.even.specs.Even.{plain}
 use Rattle.circuit.specs.Circuit.{tally}
@@ -20,7 +19,7 @@ use Rattle.frame_step.proofs.advance.Tie as tie
 strike-requires : tie.Need-strike-requires
 strike-requires c κs =
     let s = c .before .before .before .before .before .before .before in
-    (dimension (s .args .d) (s .pre .1 .dimension) .high, s .pre .5, s .pre .2, s .pre .1 .lists .strikes)
+    (dimension (s .args .d) (s .pre .1 .dimension) .high, s .pre .4, s .pre .2 .reached, s .pre .1 .lists .strikes)
 
 step-at-requires : tie.Need-step-at-requires
 step-at-requires c κs = search needs
@@ -54,12 +53,25 @@ perform-requires c κs =
       s .pre .1 .dimension,
       s .pre .1 .qudits,
       rw (← o) (s .pre .1 .lists .operations (a .k) in-list),
-      omega (arith, s .pre .3, choice-left (s .pre .1 .lists) (a .k) in-list, ap tally o),
-      s .pre .4,
+      omega (arith, s .pre .2 .count, choice-left (s .pre .1 .lists) (a .k) in-list, ap tally o),
+      s .pre .3,
       s .pre .1 .lists .below,
       k .strike .ensures .1,
-      s .pre .6,
+      s .pre .5,
     )
+
+tally-requires : tie.Need-tally-requires
+tally-requires c κs = search needs
+
+add-measurements : tie.Need-add-measurements
+add-measurements c =
+    let m = c .before .before .before .before .before .before .before .before .before .before .before .before in
+    let p = m .before .before in
+    let s = p .before .before .before .before .before .before .before .before .before .before .before in
+    let a = s .args in
+    let o = step-taken (a .d) (a .n) (now (a .ops)) (a .k) (s .pre .0) (p .step-at .ensures) (m .step .given .1) in
+    let in-list : a .k < length (operationsOf (a .d) (a .n) (now (a .ops))) = omega (arith, s .pre .0, op-count (a .d) (a .n) (now (a .ops))) in
+    omega (arith, c .tally .ensures .0, s .pre .2 .count, choice-left (s .pre .1 .lists) (a .k) in-list, ap tally o)
 
 same-length-2 : tie.Need-same-length-2
 same-length-2 c = search needs
@@ -78,61 +90,16 @@ returns-2 c =
     let k = p .before .before .before in
     let s = k .before .before .before .before .before .before .before .before in
     let a = s .args in
-    let o = step-taken (a .d) (a .n) (now (a .ops)) (a .k) (s .pre .0) (p .step-at .ensures) (m .step .given .1) in
-    let after = f .perform .ensures in (
-      step-is (a .d) (a .n) (operationsOf (a .d) (a .n) (now (a .ops))) (errorsOf (now (a .errors))) (now (a .choices)) (a .k) (plain (a .d) (a .n) (now (a .t)))
-          (now (a .results)) (now (a .frame)) o (s .pre .3) (k .strike .ensures .0)
-          (rw (not-true (f .perform .result) (c .if1 .taken)) at (after .0)),
-      refl,
-      after .1,
-      after .2,
-      after .3 ∙ k .strike .ensures .2,
-      after .4,
-      (rw (not-true (f .perform .result) (c .if1 .taken)) at (after .5)) ∙ k .strike .ensures .0,
-    )
-
-tally-requires : tie.Need-tally-requires
-tally-requires c κs = search needs
-
-add-measurements : tie.Need-add-measurements
-add-measurements c =
-    let m = c .before .before .before .before .before .before .before .before .before .before .before .before .before in
-    let p = m .before .before in
-    let s = p .before .before .before .before .before .before .before .before .before .before .before in
-    let a = s .args in
-    let o = step-taken (a .d) (a .n) (now (a .ops)) (a .k) (s .pre .0) (p .step-at .ensures) (m .step .given .1) in
-    let in-list : a .k < length (operationsOf (a .d) (a .n) (now (a .ops))) = omega (arith, s .pre .0, op-count (a .d) (a .n) (now (a .ops))) in
-    omega (arith, c .tally .ensures .0, s .pre .3, choice-left (s .pre .1 .lists) (a .k) in-list, ap tally o)
-
-same-length-5 : tie.Need-same-length-5
-same-length-5 c = search needs
-
-same-length-6 : tie.Need-same-length-6
-same-length-6 c = search needs
-
-same-length-7 : tie.Need-same-length-7
-same-length-7 c = search needs
-
-returns-3 : tie.Need-returns-3
-returns-3 c =
-    let f = c .before .before .before .before .before .before .before .before in
-    let m = f .before .before .before .before .before in
-    let p = m .before .before in
-    let k = p .before .before .before in
-    let s = k .before .before .before .before .before .before .before .before in
-    let a = s .args in
     let ops = operationsOf (a .d) (a .n) (now (a .ops)) in
     let o = step-taken (a .d) (a .n) (now (a .ops)) (a .k) (s .pre .0) (p .step-at .ensures) (m .step .given .1) in
     let after = f .perform .ensures in (
       step-is (a .d) (a .n) ops (errorsOf (now (a .errors))) (now (a .choices)) (a .k) (plain (a .d) (a .n) (now (a .t))) (now (a .results)) (now (a .frame)) o
-          (s .pre .3) (k .strike .ensures .0)
-          (rw (not-false (f .perform .result) (c .before .if1 .left)) at (after .0)),
-      (k .strike .ensures .3, omega (arith, c .tally .ensures .0, s .pre .3, measured-step ops (a .k), ap tally o)),
+          (s .pre .2 .count) (k .strike .ensures .0) (after .0),
+      record { reached = k .strike .ensures .3; count = omega (arith, c .tally .ensures .0, s .pre .2 .count, measured-step ops (a .k), ap tally o) },
       after .1,
       after .2,
       after .3 ∙ k .strike .ensures .2,
       after .4,
-      record {},
     )
 
 pub advance-spec : {M : Type 1} → statement M
@@ -146,13 +113,9 @@ advance-spec =
     same-length
     returns
     perform-requires
+    tally-requires
+    add-measurements
     same-length-2
     same-length-3
     same-length-4
-    returns-2
-    tally-requires
-    add-measurements
-    same-length-5
-    same-length-6
-    same-length-7
-    returns-3)
+    returns-2)

@@ -10,8 +10,9 @@ use borrow.Author.Tests.{ltb-true}
 use Rattle.even.specs.Even.{plain}
 use Rattle.circuit.proofs.Gates.{is-gate}
 use Rattle.outcome.specs.Look.{look}
+use Rattle.run.specs.Direct.{State}
 use Rattle.run.specs.Frame.{framedKind}
-use Rattle.frame_step.proofs.Looks.{left, left-look, untouched}
+use Rattle.frame_step.proofs.Looks.{withFrame, left-look}
 use Rattle.frame_step.proofs.perform.Statement.{statement}
 use Rattle.frame_step.proofs.perform.Tie as tie
 
@@ -60,17 +61,16 @@ returns c =
     let o = m .before .before .before .before .before .before in
     let s = o .before .before .before .before .before .before in
     let a = s .args in
-    let t = plain (a .d) (a .n) (now (a .t)) in
+    let st : State = record { rows = plain (a .d) (a .n) (now (a .t)); results = now (a .results) } in
     let F = now (a .frame) in
     let q = o .operation .given .0 .0 in (
       rw (o .operation .given .1)
-          (ap (left (a .j) F) (m .measure .ensures .0)
-          ∙ left-look (a .d) (a .n) (now (a .choices)) (a .j) q t (now (a .results)) F (look (a .d) (a .n) t q)),
+          (ap (withFrame F) (m .measure .ensures .0)
+          ∙ left-look (a .d) (a .n) (now (a .choices)) (a .j) q st F (look (a .d) (a .n) (st .rows) q)),
       m .measure .ensures .1,
       s .pre .6,
       refl,
       search needs,
-      untouched (m .measure .result) F,
     )
 
 gate-rows-requires : tie.Need-gate-rows-requires
@@ -96,7 +96,6 @@ returns-2 c =
       f .gate-frame .ensures .1,
       search needs,
       refl,
-      record {},
     )
 
 pub perform-spec : {M : Type 1} → statement M

@@ -1,7 +1,7 @@
 -- `framed::carry_even` meets its contract.
 -- Assumes nothing.
 use mathlib.Core.Path.{_≡_, refl, _∙_}
-use Prim.Native.Nat.{_-_, _<_, _≤_}
+use Prim.Native.Nat.{_-_, _≤_}
 use native.Mathlib.Nat.{le-antisymm}
 use native.Mathlib.Omega.{arith}
 use denote.Ref.{now}
@@ -14,8 +14,8 @@ use Rattle.even.specs.Even.{plain}
 use Rattle.book.specs.Decoded.{operationsOf, errorsOf}
 use Rattle.book.proofs.Lists.{op-count}
 use Rattle.run.specs.Frame.{framedStep}
-use Rattle.measure.proofs.Going.{Going, going-start, going-on, going-stops, going-ends}
-use Rattle.framed.proofs.Carried.{all-stops, all-ends}
+use Rattle.measure.proofs.Going.{Going, going-start, going-on, going-ends}
+use Rattle.framed.proofs.Ends.{all-ends}
 use Rattle.framed.proofs.carry_even.Statement.{statement}
 use Rattle.framed.proofs.carry_even.Tie as tie
 
@@ -43,76 +43,43 @@ advance-requires c κs =
     let l = c .before .before .before .before in
     let s = l .before .before .before .before .before .before .before in
     let i = l .loop .inv in
-    (c .before .before .before .loop-test .taken, s .pre .0, i .0 .reached, i .0 .count, omega (arith, i .5), i .3, i .2)
-
-enum-known-advanced : tie.Need-enum-known-advanced Inv-loop μ-loop
-enum-known-advanced c = search needs
-
-enum-known-advanced-2 : tie.Need-enum-known-advanced-2 Inv-loop μ-loop
-enum-known-advanced-2 c = search needs
-
-same-length : tie.Need-same-length Inv-loop μ-loop
-same-length c = search needs
-
-same-length-2 : tie.Need-same-length-2 Inv-loop μ-loop
-same-length-2 c = search needs
-
-same-length-3 : tie.Need-same-length-3 Inv-loop μ-loop
-same-length-3 c = search needs
-
-returns : tie.Need-returns Inv-loop μ-loop
-returns c =
-    let v = c .before .before .before .before .before .before .before .before .before in
-    let l = v .before .before .before .before .before in
-    let a = l .before .before .before .before .before .before .before .args in
-    let ops = operationsOf (a .d) (a .n) (now (a .ops)) in
-    let in-list : l .loop .k < length ops = omega (arith, op-count (a .d) (a .n) (now (a .ops))) in
-    let after = rw (c .before .advanced2 .given .1) at (v .advance .ensures) in (
-      all-stops (a .d) (a .n) ops (errorsOf (now (a .errors))) (now (a .choices)) _ (going-stops _ _ _ _ (l .loop .inv .0) in-list (after .0)),
-      after .1,
-      after .2,
-      after .3,
-      after .4 ∙ l .loop .inv .6,
-    )
+    (c .before .before .before .loop-test .taken, s .pre .0, i .0 .stands, omega (arith, i .5), i .3, i .2)
 
 add-k : tie.Need-add-k Inv-loop μ-loop
-add-k c = search needs
+add-k c =
+    search needs
 
 loop-less : tie.Need-loop-less Inv-loop μ-loop
-loop-less c = search needs
+loop-less c =
+    search needs
 
 loop-again : tie.Need-loop-again Inv-loop μ-loop
 loop-again c =
-    let v = c .before .before .before .before .before .before .before .before .before in
+    let v = c .before .before .before .before .before .before in
     let l = v .before .before .before .before .before in
-    let answer = c .before .advanced .given in
-    let after = rw (answer .1) at (v .advance .ensures) in (
-      going-on _ _ _ _ (l .loop .inv .0) (answer .0 .0) (after .0) (after .1),
-      omega arith,
-      after .2,
-      after .3,
-      omega arith,
-      omega arith,
-      after .4 ∙ l .loop .inv .6,
-    )
+    let after = v .advance .ensures in
+    (going-on _ _ _ _ (l .loop .inv .0) (after .0) (after .1), omega arith, after .2, after .3, omega arith, omega arith, after .4 ∙ l .loop .inv .6)
 
 strike-requires : tie.Need-strike-requires Inv-loop μ-loop
 strike-requires c κs =
     let l = c .before .before in
     let s = l .before .before .before .before .before .before .before in
-    (dimension (s .args .d) (s .pre .0 .dimension) .high, l .loop .inv .3, l .loop .inv .0 .reached, s .pre .0 .lists .strikes)
+    (dimension (s .args .d) (s .pre .0 .dimension) .high, l .loop .inv .3, l .loop .inv .0 .stands .reached, s .pre .0 .lists .strikes)
 
-same-length-4 : tie.Need-same-length-4 Inv-loop μ-loop
-same-length-4 c = search needs
+same-length : tie.Need-same-length Inv-loop μ-loop
+same-length c =
+    search needs
 
-same-length-5 : tie.Need-same-length-5 Inv-loop μ-loop
-same-length-5 c = search needs
+same-length-2 : tie.Need-same-length-2 Inv-loop μ-loop
+same-length-2 c =
+    search needs
 
-same-length-6 : tie.Need-same-length-6 Inv-loop μ-loop
-same-length-6 c = search needs
+same-length-3 : tie.Need-same-length-3 Inv-loop μ-loop
+same-length-3 c =
+    search needs
 
-returns-2 : tie.Need-returns-2 Inv-loop μ-loop
-returns-2 c =
+returns : tie.Need-returns Inv-loop μ-loop
+returns c =
     let k = c .before .before in
     let l = k .before .before .before in
     let a = l .before .before .before .before .before .before .before .args in
@@ -122,7 +89,7 @@ returns-2 c =
     let g = going-ends _ _ _ _ (l .loop .inv .0) low high in (
       all-ends (a .d) (a .n) ops (errorsOf (now (a .errors))) (now (a .choices)) _ (g .so-far)
           (rw (le-antisymm high low) (k .strike .ensures .0)),
-      g .count,
+      g .stands .count,
       l .loop .inv .2,
       k .strike .ensures .1,
       k .strike .ensures .2 ∙ l .loop .inv .6,
@@ -136,17 +103,11 @@ carry-even-spec =
     μ-loop
     loop-holds
     advance-requires
-    enum-known-advanced
-    enum-known-advanced-2
-    same-length
-    same-length-2
-    same-length-3
-    returns
     add-k
     loop-less
     loop-again
     strike-requires
-    same-length-4
-    same-length-5
-    same-length-6
-    returns-2)
+    same-length
+    same-length-2
+    same-length-3
+    returns)

@@ -1,55 +1,158 @@
--- `look::certain` meets its contract. A part of an array of zeros is the sums of no row.
+-- `look::certain` meets its contract.
 -- Assumes nothing.
-use mathlib.Core.Path.{sym}
+use mathlib.Core.Path.{_≡_, refl, ap, _∙_}
+use mathlib.Core.List.{List}
+use Prim.Native.Nat.{ℕ, _+_, _-_, _*_, _%_, _<_, _≤_}
+use native.Mathlib.Nat.{le-antisymm, mod-lt, mul-le-mul}
+use native.Mathlib.Numerals.{add-one}
 use native.Mathlib.Omega.{arith}
+use denote.Ref.{now}
+use lib.ListN.{getD}
 use borrow.Author.Needs.{needs}
-use Rattle.look.proofs.Sums.{zeros-length, weighed-none}
+use Rattle.modular.specs.Modular.{neg}
+use Rattle.tableau.specs.Tableau.{Tableau}
+use Rattle.tableau.proofs.Parts.{row-room, row-at, tableau-row}
+use Rattle.outcome.specs.Look.{destabilizerPower}
+use Rattle.look.specs.Sums.{weighed}
+use Rattle.look.proofs.Sums.{weighed-small}
 use Rattle.look.proofs.certain.Statement.{statement}
 use Rattle.look.proofs.certain.Tie as tie
 
-mul-w : tie.Need-mul-w
+abbrev Inv-loop : tie.InvT-loop
+Inv-loop t q d n w last sum₀ i₀ sum i = (i ≤ n) × (sum ≡ weighed n t (destabilizerPower n t q) i)
+
+abbrev μ-loop : tie.MeasureT-loop
+μ-loop t q d n w last sum₀ i₀ sum i = n - i
+
+-- one stabilizer more: what is read is the power of destabilizer i and the phase of stabilizer i
+one-more : (n q : ℕ) (t : List ℕ) (i : ℕ) → q < n → {sum x y : ℕ}
+    → sum ≡ weighed n t (destabilizerPower n t q) i
+    → x ≡ getD t (i * (2 * n + 1) + q) 0
+    → y ≡ getD t ((n + i) * (2 * n + 1) + 2 * n) 0
+    → sum + x * y ≡ weighed n t (destabilizerPower n t q) (i + 1)
+unfolding weighed
+one-more n q t i l a b c = rw (add-one i, a, b, c, ← row-at n t i q (omega arith), ← row-at n t (n + i) (2 * n) (omega arith))
+
+product-fits : (x y : ℕ) → x < 256 → y < 256 → x * y ≤ 65025
+product-fits x y a b = let p : x ≤ 255 = omega arith in let q : y ≤ 255 = omega arith in omega (arith, mul-le-mul p q)
+
+small : (d n q : ℕ) (t : List ℕ) → Tableau d n t → d ≤ 31 → q < n → n ≤ 64 → (k : ℕ) → k ≤ n → weighed n t (destabilizerPower n t q) k ≤ 57600
+small d n q t h high lq size k l =
+    let f : Tableau 31 n t = record { room = h .room; below = λ i b. omega (arith, h .below i b) } in
+    omega (arith, weighed-small n t (destabilizerPower n t q) f (λ i b. tableau-row 31 n t f i (omega arith) .below q (omega arith)) k l)
+
+mul-w : tie.Need-mul-w Inv-loop μ-loop
 mul-w c = omega arith
 
-add-w : tie.Need-add-w
+add-w : tie.Need-add-w Inv-loop μ-loop
 add-w c = omega arith
 
-array-borrow-prefix-sums : tie.Need-array-borrow-prefix-sums
-array-borrow-prefix-sums c = omega arith
+mul-last : tie.Need-mul-last Inv-loop μ-loop
+mul-last c = omega arith
 
-slice-aggregate-certain-in : tie.Need-slice-aggregate-certain-in
-slice-aggregate-certain-in c = sym (zeros-length (c .before .before .args .n) 129 (omega arith))
+loop-holds : tie.Need-loop-holds Inv-loop μ-loop
+unfolding weighed
+loop-holds c = (omega arith, refl)
 
-array-borrow-prefix-v : tie.Need-array-borrow-prefix-v
-array-borrow-prefix-v c = omega arith
+mul-power : tie.Need-mul-power Inv-loop μ-loop
+mul-power c = let s = c .before .before .before in omega (arith, row-room _ (now (s .args .t)) (s .pre .4 .room) (c .before .loop .i) (omega arith))
 
-slice-aggregate-certain-in-2 : tie.Need-slice-aggregate-certain-in-2
-slice-aggregate-certain-in-2 c = sym (zeros-length (c .before .before .before .args .n) 129 (omega arith))
+add-power : tie.Need-add-power Inv-loop μ-loop
+add-power c = let s = c .before .before .before in omega (arith, row-room _ (now (s .args .t)) (s .pre .4 .room) (c .before .loop .i) (omega arith))
 
-certain-in-requires : tie.Need-certain-in-requires
-certain-in-requires c κs =
-    let s = c .before .before .before in
-    let p = s .pre in (
-      p .0,
-      p .1,
-      p .2,
-      p .3,
-      p .4,
-      weighed-none (s .args .n) (s .args .t .now) _ 129 (omega arith),
-      zeros-length (s .args .n) 129 (omega arith),
-    )
+add-phase : tie.Need-add-phase Inv-loop μ-loop
+add-phase c = omega arith
 
-returns : tie.Need-returns
-returns c = search needs
+mul-phase : tie.Need-mul-phase Inv-loop μ-loop
+mul-phase c = let s = c .before .before .before in omega (arith, row-room _ (now (s .args .t)) (s .pre .4 .room) (s .args .n + c .before .loop .i) (omega arith))
+
+add-phase-2 : tie.Need-add-phase-2 Inv-loop μ-loop
+add-phase-2 c = let s = c .before .before .before in omega (arith, row-room _ (now (s .args .t)) (s .pre .4 .room) (s .args .n + c .before .loop .i) (omega arith))
+
+shared-slice-read-wide : tie.Need-shared-slice-read-wide Inv-loop μ-loop
+shared-slice-read-wide c =
+    let s = c .before .before .before .before in
+    omega (arith, row-room _ (now (s .args .t)) (s .pre .4 .room) (c .before .before .loop .i) (omega arith))
+
+wide-requires : tie.Need-wide-requires Inv-loop μ-loop
+wide-requires c κs = search needs
+
+shared-slice-read-wide-2 : tie.Need-shared-slice-read-wide-2 Inv-loop μ-loop
+shared-slice-read-wide-2 c =
+    let l = c .before .before .before .before in
+    let s = l .before .before in
+    omega (arith, row-room _ (now (s .args .t)) (s .pre .4 .room) (s .args .n + l .loop .i) (omega (arith, c .before .before .before .loop-test .taken)))
+
+wide-requires-2 : tie.Need-wide-requires-2 Inv-loop μ-loop
+wide-requires-2 c κs = search needs
+
+mul-sum : tie.Need-mul-sum Inv-loop μ-loop
+mul-sum c = omega (arith, product-fits (c .before .before .wide .result) (c .wide2 .result) (c .before .before .wide .ensures .1) (c .wide2 .ensures .1))
+
+add-sum : tie.Need-add-sum Inv-loop μ-loop
+add-sum c =
+    let l = c .before .before .before .before .before in
+    let s = l .before .before in
+    let next = one-more (s .args .n) (s .args .q) (now (s .args .t)) (l .loop .i) (s .pre .2) (l .loop .inv .1) (c .before .before .wide .ensures .0) (c .wide2 .ensures .0) in
+    omega (arith, next, small (s .args .d) (s .args .n) (s .args .q) (now (s .args .t)) (s .pre .4) (s .pre .1) (s .pre .2) (s .pre .3) (l .loop .i + 1) (omega (arith, c .before .before .before .before .loop-test .taken)))
+
+add-i : tie.Need-add-i Inv-loop μ-loop
+add-i c = omega arith
+
+loop-less : tie.Need-loop-less Inv-loop μ-loop
+loop-less c = omega arith
+
+loop-again : tie.Need-loop-again Inv-loop μ-loop
+loop-again c =
+    let l = c .before .before .before .before .before in
+    let s = l .before .before in
+    (omega arith, one-more (s .args .n) (s .args .q) (now (s .args .t)) (l .loop .i) (s .pre .2) (l .loop .inv .1) (c .before .before .wide .ensures .0) (c .wide2 .ensures .0))
+
+wide-reciprocal-requires : tie.Need-wide-reciprocal-requires Inv-loop μ-loop
+wide-reciprocal-requires c κs = (c .before .before .before .pre .0, c .before .before .before .pre .1)
+
+reduce-wide-requires : tie.Need-reduce-wide-requires Inv-loop μ-loop
+reduce-wide-requires c κs =
+    let l = c .before .before in
+    let s = l .before .before in
+    (omega (arith, l .loop .inv .1, small (s .args .d) (s .args .n) (s .args .q) (now (s .args .t)) (s .pre .4) (s .pre .1) (s .pre .2) (s .pre .3) (l .loop .i) (l .loop .inv .0)), c .wide-reciprocal .ensures)
+
+negative-requires : tie.Need-negative-requires Inv-loop μ-loop
+negative-requires c κs = let s = c .before .before .before .before .before in rw (c .reduce-wide .ensures) (mod-lt _ (omega (arith, s .pre .0)))
+
+returns : tie.Need-returns Inv-loop μ-loop
+returns c =
+    let r = c .before in
+    let l = r .before .before .before in
+    let s = l .before .before in
+    let all : l .loop .i ≡ s .args .n = le-antisymm (l .loop .inv .0) (r .before .before .loop-test .left) in
+    c .negative .ensures ∙ ap (neg (s .args .d)) (r .reduce-wide .ensures ∙ ap (λ (x : ℕ). x % s .args .d) (l .loop .inv .1 ∙ ap (weighed (s .args .n) (now (s .args .t)) _) all))
 
 pub certain-spec : {M : Type 1} → statement M
 certain-spec =
     tie.close
     (tie.spec
+    Inv-loop
+    μ-loop
     mul-w
     add-w
-    array-borrow-prefix-sums
-    slice-aggregate-certain-in
-    array-borrow-prefix-v
-    slice-aggregate-certain-in-2
-    certain-in-requires
+    mul-last
+    loop-holds
+    mul-power
+    add-power
+    add-phase
+    mul-phase
+    add-phase-2
+    shared-slice-read-wide
+    wide-requires
+    shared-slice-read-wide-2
+    wide-requires-2
+    mul-sum
+    add-sum
+    add-i
+    loop-less
+    loop-again
+    wide-reciprocal-requires
+    reduce-wide-requires
+    negative-requires
     returns)

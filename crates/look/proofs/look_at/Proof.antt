@@ -1,10 +1,15 @@
--- `look::look_at` meets its contract.
+-- `look_at` meets its contract.
 -- Assumes nothing.
+use mathlib.Core.Path.{sym, ap, _∙_}
+use denote.Ref.{now}
 use borrow.Author.Needs.{needs}
+use Rattle.modular.specs.Modular.{neg}
 use Rattle.modular.proofs.Listed.{dimension}
 use Rattle.validity.proofs.Exactly.{valid-tableau}
+use Rattle.outcome.specs.declared.Look.the-variants.{Certain}
 use Rattle.outcome.specs.Look.{look}
-use Rattle.outcome.proofs.EvenLook.{pivot-plain, weighted-plain}
+use Rattle.outcome.proofs.EvenLook.{pivot-plain}
+use Rattle.look.proofs.Sums.{phase-plain}
 use Rattle.look.proofs.look_at.Statement.{statement}
 use Rattle.look.proofs.look_at.Tie as tie
 
@@ -19,7 +24,7 @@ unfolding look
 returns c =
     let s = c .before .before .before .before .before in
     let a = s .args in
-    rw (pivot-plain (a .d) (a .n) (a .t .now) (s .pre .3 .room) (a .q) (s .pre .1), ← c .before .before .before .pivot-of .ensures, c .before .pivot .given .1)
+    rw (pivot-plain (a .d) (a .n) (now (a .t)) (s .pre .3 .room) (a .q) (s .pre .1), ← c .before .before .before .pivot-of .ensures, c .before .pivot .given .1)
 
 enum-told : tie.Need-enum-told
 enum-told c = search needs
@@ -33,10 +38,12 @@ certain-requires c κs =
 returns-2 : tie.Need-returns-2
 unfolding look
 returns-2 c =
-    let s = c .before .before .before .before .before in
+    let p = c .before .before .before in
+    let s = p .before .before in
     let a = s .args in
-    rw (pivot-plain (a .d) (a .n) (a .t .now) (s .pre .3 .room) (a .q) (s .pre .1), ← c .before .before .before .pivot-of .ensures, c .before .enum-told .given .1, ← weighted-plain (a .d) (a .n) (dimension _ (s .pre .0)) (a .t .now) (s .pre .3) (a .q) (s .pre .1))
-    (c .certain .ensures)
+    let none = sym (p .pivot-of .ensures) ∙ c .before .enum-told .given .1 in
+    rw (pivot-plain (a .d) (a .n) (now (a .t)) (s .pre .3 .room) (a .q) (s .pre .1), none, c .certain .ensures)
+    (ap (λ x. Certain (neg (a .d) x)) (phase-plain (a .d) (a .n) (dimension _ (s .pre .0)) (now (a .t)) (s .pre .3) (a .q) (s .pre .1) none))
 
 pub look-at-spec : {M : Type 1} → statement M
 look-at-spec =
