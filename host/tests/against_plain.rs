@@ -174,7 +174,8 @@ fn measure_levels(rng: &mut Rng, d: u8, n: u8) {
     for q in 0..n {
         book.measure(q, rng.byte_below(d));
     }
-    let first = run_both(&book.to_bytes(), &tableau, &vec![UNWRITTEN; 2 * count]);
+    let room = vec![UNWRITTEN; 2 * count];
+    let first = run_both(&book.to_bytes(), &tableau, &room);
     let mut levels: Vec<u8> = first.results.chunks(2).map(|result| result[0]).collect();
     let mut book = Book::new(d, n);
     for _ in 0..4 * count {
@@ -187,7 +188,7 @@ fn measure_levels(rng: &mut Rng, d: u8, n: u8) {
     for q in 0..n {
         book.measure(q, rng.byte_below(d));
     }
-    let run = run_both(&book.to_bytes(), &first.tableau, &vec![UNWRITTEN; 2 * count]);
+    let run = run_both(&book.to_bytes(), &first.tableau, &room);
     let expected: Vec<u8> = levels.iter().flat_map(|&level| [level, 0]).collect();
     assert_eq!(run.results, expected, "d {d} n {n}");
 }

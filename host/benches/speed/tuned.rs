@@ -354,8 +354,9 @@ fn measure(
 fn certain(rows: &[u8], n: usize, q: usize, m: &Modulo) -> u8 {
     let w = 2 * n + 1;
     let (destabilizers, stabilizers) = rows.split_at(n * w);
-    let pairs = destabilizers.chunks_exact(w).zip(stabilizers.chunks_exact(w));
-    let sum = pairs.map(|(power, phase)| u16::from(power[q]) * u16::from(phase[2 * n])).sum();
+    let powers = destabilizers.chunks_exact(w).map(|row| u16::from(row[q]));
+    let phases = stabilizers.chunks_exact(w).map(|row| u16::from(row[2 * n]));
+    let sum = powers.zip(phases).map(|(h, r)| h * r).sum();
     m.rest(m.reduce(sum).wrapping_neg())
 }
 
