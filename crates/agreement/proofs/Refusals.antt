@@ -21,8 +21,8 @@ use Rattle.body.specs.Body.{Told, refused, accepted, at, badOperation, badError
 use Rattle.book.specs.Book.{headed, dimensionOf, quditsOf, partOf, badContents, readBook}
 use Rattle.book.specs.Decoded.{measurementsIn}
 use Rattle.direct.specs.DirectBook.{Left, roomy, directTold, directBook}
-use Rattle.framed.specs.FrameBook.{FrameLeft, frameRoomy, frameTold, frameBook}
-use Rattle.agreement.specs.Refusals.{LayerListed, TestListed, DirectListed, FrameListed, LayerUnchanged, DirectUnchanged, FrameUnchanged}
+use Rattle.framed.specs.FrameBook.{Buffers, FrameLeft, frameRoomy, frameTold, frameBook}
+use Rattle.agreement.specs.Refusals.{NumbersListed, LayerUnchanged, DirectUnchanged, FrameUnchanged}
 
 -- What the reader tells: its refusal has a listed number.
 abbrev numberIn : Told → ℕ
@@ -58,17 +58,17 @@ most-unless : (test : Bool) {number rest : ℕ} → number ≤ 9 → rest ≤ 9 
 most-unless true l h = h
 most-unless false l h = l
 
-pub layer-listed : LayerListed
+layer-listed : (d n : ℕ) (t : List ℕ) → layerNumber d n t ≤ 9
 unfolding layerNumber
 layer-listed d n t = most-unless (listed d) (omega arith) (most-unless (sized n) (omega arith) (most-unless (leb _ (length t)) (omega arith) (omega arith)))
 
-pub test-listed : TestListed
+test-listed : (d n : ℕ) (t : List ℕ) → testNumber d n t ≤ 9
 unfolding testNumber
 test-listed d n t =
     most-unless (listed d) (omega arith)
     (most-unless (sized n) (omega arith) (most-unless (leb _ (length t)) (omega arith) (most-unless (valid d n t) (omega arith) (omega arith))))
 
-pub direct-listed : DirectListed
+direct-listed : (s t results : List ℕ) → directBook s t results .number ≤ 9
 unfolding directBook directTold
 direct-listed s t results = go (readBook s) (read-small s)
   where
@@ -81,7 +81,7 @@ direct-listed s t results = go (readBook s) (read-small s)
         unless-cases P (roomy n (measurementsIn s d n) t results) (λ e. omega arith)
         (λ e. unless-cases P (valid d n t) (λ e. omega arith) (λ e. omega arith))
 
-pub frame-listed : FrameListed
+frame-listed : (s : List ℕ) (lent : Buffers) → frameBook s lent .number ≤ 9
 unfolding frameBook frameTold
 frame-listed s lent = go (readBook s) (read-small s)
   where
@@ -93,6 +93,9 @@ frame-listed s lent = go (readBook s) (read-small s)
     go (accepted d n operations errors choices) h =
         unless-cases P (frameRoomy n (measurementsIn s d n) lent) (λ e. omega arith)
         (λ e. unless-cases P (valid d n (lent .tableau)) (λ e. omega arith) (λ e. omega arith))
+
+pub numbers-listed : NumbersListed
+numbers-listed = record { layer = layer-listed; test = test-listed; direct = direct-listed; frame = frame-listed }
 
 pub layer-unchanged : LayerUnchanged
 unfolding layerLeaves

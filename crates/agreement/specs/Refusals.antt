@@ -9,17 +9,11 @@ use Rattle.direct.specs.DirectBook.{directBook}
 use Rattle.framed.specs.FrameBook.{Buffers, frameBook}
 
 -- Every call returns 0 or one of 1 to 9.
-abbrev pub LayerListed : Type 0
-LayerListed = (d n : ℕ) (t : List ℕ) → layerNumber d n t ≤ 9
-
-abbrev pub TestListed : Type 0
-TestListed = (d n : ℕ) (t : List ℕ) → testNumber d n t ≤ 9
-
-abbrev pub DirectListed : Type 0
-DirectListed = (s t results : List ℕ) → directBook s t results .number ≤ 9
-
-abbrev pub FrameListed : Type 0
-FrameListed = (s : List ℕ) (lent : Buffers) → frameBook s lent .number ≤ 9
+pub record NumbersListed : Type 0 where
+  pub layer : (d n : ℕ) (t : List ℕ) → layerNumber d n t ≤ 9
+  pub test : (d n : ℕ) (t : List ℕ) → testNumber d n t ≤ 9
+  pub direct : (s t results : List ℕ) → directBook s t results .number ≤ 9
+  pub frame : (s : List ℕ) (lent : Buffers) → frameBook s lent .number ≤ 9
 
 -- Each refusal leaves every buffer unchanged; the frame run's verdict is then 0. The tableau test writes no buffer.
 abbrev pub LayerUnchanged : Type 0
