@@ -1,4 +1,4 @@
--- What either run leaves passes the tableau test: the run keeps validity, and it began on a valid tableau.
+-- What either run leaves, if it does not refuse, passes the tableau test: it keeps validity, and it began on a valid tableau.
 -- Assumes nothing.
 use mathlib.Core.Path.{_≡_}
 use mathlib.Core.Bool.{Bool, true}
@@ -65,7 +65,6 @@ module _ (s : List ℕ) (d n operations errors choices : ℕ) (e : readBook s �
       (frame-keeps-valid d n dim (opsIn s d n) (errorsIn s) (choicesIn s) (noFrame n) (m .lists)
       (record { rows = lent .tableau; results = lent .results })
       (valid-exactly d n dim (lent .tableau) (leb-true _ _ (both rows _ r .0)) .0 v)
-      (leb-true _ _ (both results _ (both rows _ r .1) .0))
       (lent .shifts)
       (lent .frame)))))
     where
@@ -74,9 +73,6 @@ module _ (s : List ℕ) (d n operations errors choices : ℕ) (e : readBook s �
 
       rows : Bool
       rows = leb (2 * n * (2 * n + 1)) (length (lent .tableau))
-
-      results : Bool
-      results = leb (2 * measurementsIn s d n) (length (lent .results))
 
 pub direct-leaves-valid : DirectLeavesValid
 direct-leaves-valid = direct-passes

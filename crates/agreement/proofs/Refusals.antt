@@ -3,13 +3,12 @@
 use mathlib.Core.Path.{_≡_, refl}
 use mathlib.Core.Logic.{_≢_}
 use mathlib.Core.Bool.{Bool, true, false}
-use mathlib.Core.List.{List}
-use Prim.Native.Nat.{ℕ, _≤_}
-use native.Mathlib.Omega.{arith}
+use mathlib.Core.List.{List, [], _∷_}
+use Prim.Native.Nat.{ℕ}
 use lib.Dec.{leb}
 use lib.ListN.{length}
 use borrow.Author.Tests.{ne-eqb}
-use Rattle.modular.specs.Dimension.{listed}
+use Rattle.modular.specs.Dimension.{among, listed}
 use Rattle.search.specs.declared.Place.{Place}
 use Rattle.search.specs.declared.Place.the-variants.{At, Nowhere}
 use Rattle.search.specs.Search.{unless}
@@ -22,77 +21,79 @@ use Rattle.book.specs.Book.{headed, dimensionOf, quditsOf, partOf, badContents,
 use Rattle.book.specs.Decoded.{measurementsIn}
 use Rattle.direct.specs.DirectBook.{Left, roomy, directTold, directBook}
 use Rattle.framed.specs.FrameBook.{Buffers, FrameLeft, frameRoomy, frameTold, frameBook}
-use Rattle.agreement.specs.Refusals.{NumbersListed, LayerUnchanged, DirectUnchanged, FrameUnchanged}
+use Rattle.agreement.specs.Refusals.{runNumbers, NumbersListed, LayerUnchanged, DirectUnchanged, FrameUnchanged}
+
+layer-listed : (d n : ℕ) (t : List ℕ) → among (layerNumber d n t) (0 ∷ 2 ∷ 3 ∷ 8 ∷ []) ≡ true
+unfolding layerNumber
+layer-listed d n t =
+    unless-cases P (listed d) (λ e. refl) (λ e. unless-cases P (sized n) (λ e. refl) (λ e. unless-cases P (leb _ (length t)) (λ e. refl) (λ e. refl)))
+  where
+    P : ℕ → Type 0
+    P number = among number (0 ∷ 2 ∷ 3 ∷ 8 ∷ []) ≡ true
+
+test-listed : (d n : ℕ) (t : List ℕ) → among (testNumber d n t) (0 ∷ 2 ∷ 3 ∷ 8 ∷ 9 ∷ []) ≡ true
+unfolding testNumber
+test-listed d n t =
+    unless-cases P (listed d) (λ e. refl)
+    (λ e.
+    unless-cases P (sized n) (λ e. refl)
+    (λ e. unless-cases P (leb _ (length t)) (λ e. refl) (λ e. unless-cases P (valid d n t) (λ e. refl) (λ e. refl))))
+  where
+    P : ℕ → Type 0
+    P number = among number (0 ∷ 2 ∷ 3 ∷ 8 ∷ 9 ∷ []) ≡ true
 
 -- What the reader tells: its refusal has a listed number.
 abbrev numberIn : Told → ℕ
 numberIn (refused number place) = number
 numberIn (accepted d n operations errors choices) = 0
 
-record Small (told : Told) : Type 0 where
-  small : numberIn told ≤ 9
+record Listed (told : Told) : Type 0 where
+  is : among (numberIn told) runNumbers ≡ true
 
-small-unless : (test : Bool) (number place : ℕ) → number ≤ 9 → {rest : Told} → Small rest → Small (unless test (refused number place) rest)
-small-unless true number place l h = h
-small-unless false number place l h = record { small = l }
+listed-unless : (test : Bool) (number place : ℕ) → among number runNumbers ≡ true → {rest : Told} → Listed rest → Listed (unless test (refused number place) rest)
+listed-unless true number place l h = h
+listed-unless false number place l h = record { is = l }
 
-small-at : (number : ℕ) → number ≤ 9 → (p : Place) {rest : Told} → Small rest → Small (at number p rest)
-small-at number l (At k) h = record { small = l }
-small-at number l Nowhere h = h
+listed-at : (number : ℕ) → among number runNumbers ≡ true → (p : Place) {rest : Told} → Listed rest → Listed (at number p rest)
+listed-at number l (At k) h = record { is = l }
+listed-at number l Nowhere h = h
 
-small-bodies : (d n : ℕ) (ops errors choices : List ℕ) → Small (readBodies d n ops errors choices)
+listed-bodies : (d n : ℕ) (ops errors choices : List ℕ) → Listed (readBodies d n ops errors choices)
 unfolding readBodies
-small-bodies d n ops errors choices =
-    small-at 5 (omega arith) (badOperation d n ops)
-    (small-at 6 (omega arith) (badError d n _ errors) (small-at 7 (omega arith) (badChoice d _ choices) (record { small = omega arith })))
+listed-bodies d n ops errors choices =
+    listed-at 5 refl (badOperation d n ops) (listed-at 6 refl (badError d n _ errors) (listed-at 7 refl (badChoice d _ choices) (record { is = refl })))
 
-read-small : (s : List ℕ) → Small (readBook s)
+read-listed : (s : List ℕ) → Listed (readBook s)
 unfolding readBook
-read-small s =
-    small-unless (headed s) 1 0 (omega arith)
-    (small-unless (listed (dimensionOf s)) 2 0 (omega arith)
-    (small-unless (sized (quditsOf s)) 3 0 (omega arith)
-    (small-at 4 (omega arith) (badContents s) (small-bodies (dimensionOf s) (quditsOf s) (partOf s 4) (partOf s 10) (partOf s 16)))))
+read-listed s =
+    listed-unless (headed s) 1 0 refl
+    (listed-unless (listed (dimensionOf s)) 2 0 refl
+    (listed-unless (sized (quditsOf s)) 3 0 refl
+    (listed-at 4 refl (badContents s) (listed-bodies (dimensionOf s) (quditsOf s) (partOf s 4) (partOf s 10) (partOf s 16)))))
 
-most-unless : (test : Bool) {number rest : ℕ} → number ≤ 9 → rest ≤ 9 → unless test number rest ≤ 9
-most-unless true l h = h
-most-unless false l h = l
-
-layer-listed : (d n : ℕ) (t : List ℕ) → layerNumber d n t ≤ 9
-unfolding layerNumber
-layer-listed d n t = most-unless (listed d) (omega arith) (most-unless (sized n) (omega arith) (most-unless (leb _ (length t)) (omega arith) (omega arith)))
-
-test-listed : (d n : ℕ) (t : List ℕ) → testNumber d n t ≤ 9
-unfolding testNumber
-test-listed d n t =
-    most-unless (listed d) (omega arith)
-    (most-unless (sized n) (omega arith) (most-unless (leb _ (length t)) (omega arith) (most-unless (valid d n t) (omega arith) (omega arith))))
-
-direct-listed : (s t results : List ℕ) → directBook s t results .number ≤ 9
+direct-listed : (s t results : List ℕ) → among (directBook s t results .number) runNumbers ≡ true
 unfolding directBook directTold
-direct-listed s t results = go (readBook s) (read-small s)
+direct-listed s t results = go (readBook s) (read-listed s)
   where
     P : Left → Type 0
-    P l = l .number ≤ 9
+    P l = among (l .number) runNumbers ≡ true
 
-    go : (x : Told) → Small x → P (directTold s t results x)
-    go (refused number place) h = h .small
+    go : (x : Told) → Listed x → P (directTold s t results x)
+    go (refused number place) h = h .is
     go (accepted d n operations errors choices) h =
-        unless-cases P (roomy n (measurementsIn s d n) t results) (λ e. omega arith)
-        (λ e. unless-cases P (valid d n t) (λ e. omega arith) (λ e. omega arith))
+        unless-cases P (roomy n (measurementsIn s d n) t results) (λ e. refl) (λ e. unless-cases P (valid d n t) (λ e. refl) (λ e. refl))
 
-frame-listed : (s : List ℕ) (lent : Buffers) → frameBook s lent .number ≤ 9
+frame-listed : (s : List ℕ) (lent : Buffers) → among (frameBook s lent .number) runNumbers ≡ true
 unfolding frameBook frameTold
-frame-listed s lent = go (readBook s) (read-small s)
+frame-listed s lent = go (readBook s) (read-listed s)
   where
     P : FrameLeft → Type 0
-    P l = l .number ≤ 9
+    P l = among (l .number) runNumbers ≡ true
 
-    go : (x : Told) → Small x → P (frameTold s lent x)
-    go (refused number place) h = h .small
+    go : (x : Told) → Listed x → P (frameTold s lent x)
+    go (refused number place) h = h .is
     go (accepted d n operations errors choices) h =
-        unless-cases P (frameRoomy n (measurementsIn s d n) lent) (λ e. omega arith)
-        (λ e. unless-cases P (valid d n (lent .tableau)) (λ e. omega arith) (λ e. omega arith))
+        unless-cases P (frameRoomy n (measurementsIn s d n) lent) (λ e. refl) (λ e. unless-cases P (valid d n (lent .tableau)) (λ e. refl) (λ e. refl))
 
 pub numbers-listed : NumbersListed
 numbers-listed = record { layer = layer-listed; test = test-listed; direct = direct-listed; frame = frame-listed }

@@ -1,5 +1,5 @@
--- Validity survives a book: what either run leaves passes the tableau test for the book's d and n. The statements are proved in
--- proofs/.
+-- Validity survives a book: what either run leaves, if it does not refuse, passes the tableau test for the book's d and n. The
+-- statements are proved in proofs/.
 use mathlib.Core.Path.{_≡_}
 use mathlib.Core.List.{List}
 use Prim.Native.Nat.{ℕ}

@@ -1,19 +1,25 @@
--- Refusals: their numbers, and that each leaves every buffer unchanged. The statements are proved in proofs/.
+-- Refusals: the numbers of each call, and that each refusal leaves every buffer unchanged. The statements are proved in proofs/.
 use mathlib.Core.Path.{_≡_}
+use mathlib.Core.Bool.{true}
 use mathlib.Core.Logic.{_≢_}
-use mathlib.Core.List.{List}
-use Prim.Native.Nat.{ℕ, _≤_}
+use mathlib.Core.List.{List, [], _∷_}
+use Prim.Native.Nat.{ℕ}
+use Rattle.modular.specs.Dimension.{among}
 use Rattle.layer.specs.Layer.{layerNumber, layerLeaves}
 use Rattle.validity.specs.Validity.{testNumber}
 use Rattle.direct.specs.DirectBook.{directBook}
 use Rattle.framed.specs.FrameBook.{Buffers, frameBook}
 
--- Every call returns 0 or one of 1 to 9.
+-- Either run: 1 to 7, then 8, then 9; 0 is success.
+abbrev pub runNumbers : List ℕ
+runNumbers = 0 ∷ 1 ∷ 2 ∷ 3 ∷ 4 ∷ 5 ∷ 6 ∷ 7 ∷ 8 ∷ 9 ∷ []
+
+-- No call returns a number that is not in its list.
 pub record NumbersListed : Type 0 where
-  pub layer : (d n : ℕ) (t : List ℕ) → layerNumber d n t ≤ 9
-  pub test : (d n : ℕ) (t : List ℕ) → testNumber d n t ≤ 9
-  pub direct : (s t results : List ℕ) → directBook s t results .number ≤ 9
-  pub frame : (s : List ℕ) (lent : Buffers) → frameBook s lent .number ≤ 9
+  pub layer : (d n : ℕ) (t : List ℕ) → among (layerNumber d n t) (0 ∷ 2 ∷ 3 ∷ 8 ∷ []) ≡ true
+  pub test : (d n : ℕ) (t : List ℕ) → among (testNumber d n t) (0 ∷ 2 ∷ 3 ∷ 8 ∷ 9 ∷ []) ≡ true
+  pub direct : (s t results : List ℕ) → among (directBook s t results .number) runNumbers ≡ true
+  pub frame : (s : List ℕ) (lent : Buffers) → among (frameBook s lent .number) runNumbers ≡ true
 
 -- Each refusal leaves every buffer unchanged; the frame run's verdict is then 0. The tableau test writes no buffer.
 abbrev pub LayerUnchanged : Type 0

@@ -2,7 +2,7 @@
 -- Assumes nothing.
 use mathlib.Core.Path.{_≡_, refl, sym, ap}
 use mathlib.Core.List.{List, []}
-use Prim.Native.Nat.{ℕ, zero, suc, _+_, _%_, _≤_, _<_}
+use Prim.Native.Nat.{ℕ, zero, suc, _+_, _*_, _%_, _≤_, _<_}
 use native.Mathlib.Nat.{le-refl}
 use native.Mathlib.Omega.{arith}
 use lib.ListN.{length, getD}
@@ -15,8 +15,8 @@ use Rattle.outcome.specs.declared.Look.the-variants.{Free, Certain}
 use Rattle.outcome.specs.Look.{look}
 use Rattle.run.specs.Run.{onward, noted}
 use Rattle.run.specs.Direct.{State, strike, directLook, directKind, directStrike, directStep, directRun}
-use Rattle.run.specs.Frame.{Framed, framedLook, framedKind, framedStrike, framedStep, framedAll, framedLeave, frameRunFrom}
-use Rattle.run.specs.Raised.{carryBy, struckFrame, carried, resultShifts}
+use Rattle.run.specs.Frame.{Framed, shiftRows, framedLook, framedKind, framedStrike, framedStep, framedAll, framedLeave, frameRunFrom}
+use Rattle.run.specs.Raised.{carryBy, struckFrame, carried, finalFrame, resultShifts}
 use Rattle.run.proofs.Results.{measured-before}
 use Rattle.run.proofs.Shifts.{shift-of}
 use Rattle.carrying.specs.Carrying.{FrameKeepsValid, CleanPlus, FrameIsClean}
@@ -29,13 +29,13 @@ use Rattle.carrying.proofs.Told.{Told, told-none, told-more}
 abbrev Shifted : ℕ → List ℕ → ℕ → ℕ → ℕ → Type 0
 Shifted d shifts j x y = y ≡ (x + getD shifts j 0) % d
 
--- the same rows, the frame G, and the results of m measurements of `total` told
-record Plus (d : ℕ) (shifts : List ℕ) (total m : ℕ) (G : List ℕ) (A : State) (B : Framed) : Type 0 where
+-- the same rows, the frame G, and, where there is room for them, the results of m measurements of `total` told
+record Plus (room : Type 0) (d : ℕ) (shifts : List ℕ) (total m : ℕ) (G : List ℕ) (A : State) (B : Framed) : Type 0 where
   rows : B .rows ≡ A .rows
   frame : B .frame ≡ G
-  results : Told (Shifted d shifts) total m (A .results) (B .results)
+  results : room → Told (Shifted d shifts) total m (A .results) (B .results)
 
-module _ (d n : ℕ) (ops : List Operation) (errors : List WeylError) (choices F : List ℕ) where
+module _ (room : Type 0) (d n : ℕ) (ops : List Operation) (errors : List WeylError) (choices F : List ℕ) where
   abbrev total : ℕ
   total = measured ops (length ops)
 
@@ -49,8 +49,8 @@ module _ (d n : ℕ) (ops : List Operation) (errors : List WeylError) (choices F
   abbrev struck : ℕ → List ℕ
   struck k = struckFrame d n ops errors k (reached k)
 
-  plus-kind : (k : ℕ) → k < length ops → (t out out' : List ℕ) → Told (Shifted d shifts) total (measured ops k) out out' → (x : Kind) → kind (opAt ops k) ≡ x
-      → Plus d shifts total (measured ops k + tallyKind x) (carryBy d n ops errors k x (struck k))
+  plus-kind : (k : ℕ) → k < length ops → (t out out' : List ℕ) → (room → Told (Shifted d shifts) total (measured ops k) out out') → (x : Kind) → kind (opAt ops k) ≡ x
+      → Plus room d shifts total (measured ops k + tallyKind x) (carryBy d n ops errors k x (struck k))
       (directKind d n choices (measured ops k) (record { rows = t; results = out }) (opAt ops k) x)
       (framedKind d n choices (measured ops k) (record { rows = t; results = out'; frame = struck k }) (opAt ops k) x)
   unfolding directKind framedKind directLook framedLook carryBy
@@ -60,56 +60,67 @@ module _ (d n : ℕ) (ops : List Operation) (errors : List WeylError) (choices F
       j : ℕ
       j = measured ops k
 
-      more : (x mark : ℕ) → Told (Shifted d shifts) total (j + 1) (noted out j x mark) (noted out' j ((x + xOf (struck k) q) % d) mark)
-      more x mark =
+      more : (x mark : ℕ) → room → Told (Shifted d shifts) total (j + 1) (noted out j x mark) (noted out' j ((x + xOf (struck k) q) % d) mark)
+      more x mark r =
           told-more (Shifted d shifts) total j x _ mark (measured-before ops k (length ops) q l e)
           (ap (λ (z : ℕ). (x + z) % d) (sym (shift-of d n ops errors F k q l e)))
-          a
+          (a r)
 
-      by : (x : Look) → Plus d shifts total (j + 1) (struck k) (directLook d n choices j q (record { rows = t; results = out }) x)
+      by : (x : Look) → Plus room d shifts total (j + 1) (struck k) (directLook d n choices j q (record { rows = t; results = out }) x)
           (framedLook d n choices j q (record { rows = t; results = out'; frame = struck k }) x)
       by (Free i) = record { rows = refl; frame = refl; results = more (getD choices j 0) 1 }
       by (Certain outcome) = record { rows = refl; frame = refl; results = more outcome 0 }
 
-  plus-step : (k : ℕ) → k < length ops → (A : State) (B : Framed) → Plus d shifts total (measured ops k) (reached k) A B
-      → Plus d shifts total (measured ops (suc k)) (carryBy d n ops errors k (kind (opAt ops k)) (struck k))
+  plus-step : (k : ℕ) → k < length ops → (A : State) (B : Framed) → Plus room d shifts total (measured ops k) (reached k) A B
+      → Plus room d shifts total (measured ops (suc k)) (carryBy d n ops errors k (kind (opAt ops k)) (struck k))
       (directStep d n ops [] choices k A)
       (framedStep d n ops errors choices k B)
   unfolding measured directStep framedStep directStrike framedStrike strike struckFrame
   plus-step k l A B a =
       rw (a .rows, a .frame) (plus-kind k l (A .rows) (A .results) (B .results) (a .results) (kind (opAt ops k)) refl)
 
-  plus-onward : (A : State) (B : Framed) → Plus d shifts total 0 F A B → (count : ℕ) → count ≤ length ops
-      → Plus d shifts total (measured ops count) (reached count)
+  plus-onward : (A : State) (B : Framed) → Plus room d shifts total 0 F A B → (count : ℕ) → count ≤ length ops
+      → Plus room d shifts total (measured ops count) (reached count)
       (onward (directStep d n ops [] choices) 0 A count)
       (onward (framedStep d n ops errors choices) 0 B count)
   unfolding onward measured carried
   plus-onward A B a zero l = a
   plus-onward A B a (suc m) l = let q : 0 + m ≡ m = omega arith in rw q (plus-step m l _ _ (plus-onward A B a m (omega arith)))
 
-  -- the errors after all operations
-  plus-end : (shiftBuffer frame : List ℕ) (A : State) (B : Framed) → Plus d shifts total total (reached (length ops)) A B
-      → CleanPlus d n ops errors F frame (directStrike d n ops [] choices (length ops) A)
-      (framedLeave d n ops errors choices shiftBuffer frame (framedStrike d n ops errors choices (length ops) B))
-  unfolding framedLeave directStrike framedStrike strike struckFrame
-  plus-end shiftBuffer frame A B a =
-      record {
-        final = rw (a .frame);
-        rows = rw (a .rows, a .frame);
-        outcomes = a .results .outcome;
-        marks = a .results .mark;
-      }
+  module _ (st : State) (start : room → 2 * total ≤ length (st .results)) where
+    plus-all : Plus room d shifts total total (reached (length ops))
+        (onward (directStep d n ops [] choices) 0 st (length ops))
+        (onward (framedStep d n ops errors choices) 0 (record { rows = st .rows; results = st .results; frame = F }) (length ops))
+    plus-all =
+        plus-onward st _
+        (record { rows = refl; frame = refl; results = λ r. told-none (Shifted d shifts) total (start r) (start r) })
+        (length ops)
+        (le-refl (length ops))
+
+    -- the errors after all operations
+    rows-shifted : (shiftBuffer frame : List ℕ)
+        → frameRunFrom d n ops errors choices F st shiftBuffer frame .rows
+        ≡ shiftRows d n (finalFrame d n ops errors F) (directRun d n ops [] choices st .rows)
+    unfolding directRun frameRunFrom framedAll framedLeave directStrike framedStrike strike struckFrame
+    rows-shifted shiftBuffer frame = rw (plus-all .rows, plus-all .frame)
+
+    clean-plus : room → (shiftBuffer frame : List ℕ)
+        → CleanPlus d n ops errors F frame (directRun d n ops [] choices st) (frameRunFrom d n ops errors choices F st shiftBuffer frame)
+    unfolding directRun frameRunFrom framedAll framedLeave directStrike framedStrike strike struckFrame
+    clean-plus r shiftBuffer frame =
+        record {
+          final = rw (plus-all .frame);
+          rows = rows-shifted shiftBuffer frame;
+          outcomes = plus-all .results r .outcome;
+          marks = plus-all .results r .mark;
+        }
 
 pub frame-is-clean : FrameIsClean
-unfolding directRun frameRunFrom framedAll
 frame-is-clean d n ops errors choices F st shifts frame room =
-    plus-end d n ops errors choices F shifts frame _ _
-    (plus-onward d n ops errors choices F st (record { rows = st .rows; results = st .results; frame = F })
-    (record { rows = refl; frame = refl; results = told-none (Shifted d (resultShifts d n ops errors 0 F (length ops))) _ room room })
-    (length ops)
-    (le-refl (length ops)))
+    clean-plus (2 * measured ops (length ops) ≤ length (st .results)) d n ops errors choices F st (λ r. r) room shifts frame
 
+-- Rows do not depend on results, so no room is asked for.
 pub frame-keeps-valid : FrameKeepsValid
-frame-keeps-valid d n dim ops errors choices F ac st ok room shifts frame =
-    rw (frame-is-clean d n ops errors choices F st shifts frame room .rows)
+frame-keeps-valid d n dim ops errors choices F ac st ok shifts frame =
+    rw (rows-shifted ⊥ d n ops errors choices F st (λ r. absurd r) shifts frame)
     (shift-keeps-valid d n dim _ _ (run-keeps-valid d n dim ops [] choices (without-errors ac) st ok))

@@ -5,7 +5,6 @@ use mathlib.Core.List.{List}
 use Prim.Native.Nat.{ℕ, zero, suc, _+_, _*_, _%_, _<_}
 use native.Mathlib.Nat.{mod-lt}
 use native.Mathlib.Omega.{arith}
-use borrow.Author.Tests.{eqb-true}
 use Rattle.congruence.proofs.Congruence.{cong-trans, cong-mul-left, small-cong}
 use Rattle.modular.specs.Modular.{neg}
 use Rattle.modular.specs.Dimension.{Dimension}
@@ -14,7 +13,7 @@ use Rattle.row.specs.Generators.{zWith}
 use Rattle.weyl.proofs.Reading.{neg-small, neg-is}
 use Rattle.search.specs.declared.Place.{Place}
 use Rattle.search.specs.declared.Place.the-variants.{At, Nowhere}
-use Rattle.search.proofs.Search.{found-fails, all-good}
+use Rattle.search.proofs.Search.{found-fails}
 use Rattle.tableau.specs.Tableau.{every}
 use Rattle.validity.specs.Validity.{Valid}
 use Rattle.validity.proofs.Exactly.{valid-tableau}
@@ -24,7 +23,7 @@ use Rattle.outcome.specs.Look.{stabilizerPower, commutes, pivotOf, weighted, lo
 use Rattle.outcome.proofs.Combination.{pivot-same}
 use Rattle.keeping.proofs.View.{reads-at, basis, valid-on}
 use Rattle.measurement.proofs.Combination.{reads-weighted}
-use Rattle.measurement.proofs.Looks.{Commuting}
+use Rattle.measurement.proofs.Looks.{Commuting, commuting-of}
 use Rattle.measurement.proofs.Certain.{z-phase, weighted-z, look-certain}
 use Rattle.run.specs.Frame.{shiftRow, shiftRows}
 use Rattle.run.proofs.Frames.{shift-keeps}
@@ -89,7 +88,7 @@ module _ (e n : ℕ) (dim : Dimension (suc e)) (t : List ℕ) (ok : Valid (suc e
             ap (lookBy (suc e) n (shiftRows (suc e) n F t) q) (sym (pivot-same n t (shiftRows (suc e) n F t) q alike) ∙ x) in
             subst₂ (Both (suc e) n t q F) (sym y) (sym z) (free k l y)
         go Nowhere x =
-            let c : Commuting n t q = λ i l. eqb-true _ 0 (all-good (commutes n t q) n x i l) in
+            let c = commuting-of n t q x in
             subst₂ (Both (suc e) n t q F) (sym (look-certain dim ok q lq c)) (sym (shifted-certain c)) (certain _)
 
 pub both : (d n : ℕ) → Dimension d → (t : List ℕ) → Valid d n t → (F : List ℕ) (q : ℕ) → q < n → Both d n t q F (look d n t q) (look d n (shiftRows d n F t) q)

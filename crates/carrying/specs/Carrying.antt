@@ -30,8 +30,7 @@ RunKeepsValid = (d n : ℕ) → Dimension d → (ops : List Operation) (errors :
 abbrev pub FrameKeepsValid : Type 0
 FrameKeepsValid = (d n : ℕ) → Dimension d → (ops : List Operation) (errors : List WeylError) (choices F : List ℕ)
     → Accepted d n ops errors choices
-    → (st : State) → Valid d n (st .rows) → 2 * measured ops (length ops) ≤ length (st .results)
-    → (shifts frame : List ℕ) → Valid d n (frameRunFrom d n ops errors choices F st shifts frame .rows)
+    → (st : State) → Valid d n (st .rows) → (shifts frame : List ℕ) → Valid d n (frameRunFrom d n ops errors choices F st shifts frame .rows)
 
 -- The needed bytes of the tableaus, and the two bytes per measurement, are equal.
 pub record Agree (n measurements : ℕ) (struck : State) (carried : Ended) : Type 0 where

@@ -22,10 +22,11 @@ pub record Left : Type 0 where
 abbrev pub roomy : ℕ → ℕ → List ℕ → List ℕ → Bool
 roomy n measurements t results = leb (2 * n * (2 * n + 1)) (length t) && leb (2 * measurements) (length results)
 
--- what a run of three bodies ends with: success returns 0 and the number of measurements
+-- Success returns 0 and the number of measurements.
 abbrev pub ended : ℕ → State → Left
 ended measurements st = record { number = 0; place = measurements; tableau = st .rows; results = st .results }
 
+-- what a run of three bodies ends with
 abbrev pub directBodies : ℕ → ℕ → List ℕ → List ℕ → List ℕ → State → Left
 directBodies d n ops errors choices st =
     ended (measured (operationsOf d n ops) (length (operationsOf d n ops))) (directRun d n (operationsOf d n ops) (errorsOf errors) choices st)

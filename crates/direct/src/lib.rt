@@ -4,13 +4,15 @@ ghost use Prim.Native.Nat.{_*_, _≤_};
 ghost use lib.ListN.{length};
 ghost use Rattle.validity.specs.Validity.{Valid};
 ghost use Rattle.even.specs.Even.{plain};
-ghost use Rattle.book.specs.Decoded.{Bodies};
+ghost use Rattle.circuit.specs.Circuit.{measured};
+ghost use Rattle.book.specs.Decoded.{operationsOf, errorsOf, Bodies};
+ghost use Rattle.run.specs.Direct.{directRun};
 ghost use Rattle.direct.specs.DirectBook.{roomy, directBodies, directBook};
 use body::Reading;
 use circuit::Progress;
 use tableau::Answer;
 
-// All operations, then the errors after them, on rows with even phases.
+// All operations, then the errors after them, on rows with even phases. The number of measurements.
 fn run_even(
     t: &mut [u8],
     results: &mut [u8],
@@ -19,9 +21,9 @@ fn run_even(
     choices: &[u8],
     d: u8,
     n: usize,
-) -> Answer
+) -> usize
     requires { ⌜ Bodies d n (now ops) (now errors) (now choices) × (2 * length (now choices) ≤ length (now results)) × Valid d n (now t) ⌝ }
-    ensures { λ r. ⌜ (record { number = r .number; place = r .place; tableau = plain d n (now (t .exit)); results = now (results .exit) } ≡ directBodies d n (now (ops .entry)) (now (errors .entry)) (now (choices .entry)) (record { rows = plain d n (now (t .entry)); results = now (results .entry) })) × Valid d n (now (t .exit)) ⌝ }
+    ensures { λ r. ⌜ (record { rows = plain d n (now (t .exit)); results = now (results .exit) } ≡ directRun d n (operationsOf d n (now (ops .entry))) (errorsOf (now (errors .entry))) (now (choices .entry)) (record { rows = plain d n (now (t .entry)); results = now (results .entry) })) × (r ≡ measured (operationsOf d n (now (ops .entry))) (length (operationsOf d n (now (ops .entry))))) × Valid d n (now (t .exit)) ⌝ }
 {
     let count = ops.len() / 4;
     let mut at = Progress {
@@ -35,13 +37,10 @@ fn run_even(
     }
     let from = at.entry;
     direct_step::strike(t, errors, from, k, d, n);
-    Answer {
-        number: 0,
-        place: at.measurements,
-    }
+    at.measurements
 }
 
-// The same on rows with their own phases.
+// The same on rows with their own phases: 0 and the number of measurements.
 fn run(
     t: &mut [u8],
     results: &mut [u8],
@@ -55,9 +54,9 @@ fn run(
     ensures { λ r. ⌜ record { number = r .number; place = r .place; tableau = now (t .exit); results = now (results .exit) } ≡ directBodies d n (now (ops .entry)) (now (errors .entry)) (now (choices .entry)) (record { rows = now (t .entry); results = now (results .entry) }) ⌝ }
 {
     even::to_even(t, d, n);
-    let answer = run_even(t, results, ops, errors, choices, d, n);
+    let place = run_even(t, results, ops, errors, choices, d, n);
     even::to_plain(t, d, n);
-    answer
+    Answer { number: 0, place }
 }
 
 // Whether each buffer is as long as it must be.

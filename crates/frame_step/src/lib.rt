@@ -75,6 +75,7 @@ pub fn advance(
     let from = at.entry;
     let entry = strike(frame, errors, from, k, d, n);
     let Taken::Next(step) = entries::step_at(ops, k, d, n) else {
+        // never: the reader let every entry pass
         return at;
     };
     let operation = step.operation;

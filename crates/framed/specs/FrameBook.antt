@@ -31,7 +31,7 @@ frameRoomy n measurements lent =
     leb (2 * n * (2 * n + 1)) (length (lent .tableau)) && (leb (2 * measurements) (length (lent .results))
     && (leb (2 * n) (length (lent .shifts)) && leb (2 * n) (length (lent .frame))))
 
--- The third number is the verdict: 0 clean, 1 shifted, and 0 with any refusal.
+-- Success returns 0, the number of measurements and, as a third number, the verdict: 0 clean, 1 shifted.
 abbrev pub frameEnded : ℕ → Ended → FrameLeft
 frameEnded measurements end =
     record {
@@ -41,7 +41,7 @@ frameEnded measurements end =
       left = record { tableau = end .rows; results = end .results; shifts = end .shifts; frame = end .frame };
     }
 
--- a refusal that leaves every buffer unchanged
+-- A refusal has the verdict 0 and leaves every buffer unchanged.
 abbrev pub turnedAway : ℕ → ℕ → Buffers → FrameLeft
 turnedAway number place lent = record { number = number; place = place; verdict = 0; left = lent }
 

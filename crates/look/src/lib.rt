@@ -13,12 +13,6 @@ ghost use Rattle.look.specs.Sums.{weighed};
 use outcome::Look;
 use search::Place;
 
-fn wide(x: u8) -> u32
-    ensures { λ r. ⌜ (r ≡ x) × (r < 256) ⌝ }
-{
-    x as u32
-}
-
 // The lowest stabilizer whose X power on q is not 0.
 fn pivot_of(t: &[u8], q: usize, n: usize) -> Place
     requires { ⌜ (q < n) × (n ≤ 64) × (2 * n * (2 * n + 1) ≤ length (now t)) ⌝ }
@@ -36,22 +30,26 @@ fn pivot_of(t: &[u8], q: usize, n: usize) -> Place
     Place::Nowhere
 }
 
-// The outcome that the weighted product fixes. The product is Z on q, so of its bytes the phase alone is made.
+// The outcome that the weighted product fixes, from even phases: they add up over the stabilizers. Where no stabilizer is a pivot,
+// the product is Z on q, whose even phase is its phase.
 fn certain(t: &[u8], q: usize, d: u8, n: usize) -> u8
     requires { ⌜ (3 ≤ d) × (d ≤ 31) × (q < n) × (n ≤ 64) × Tableau d n (now t) ⌝ }
     ensures { λ r. ⌜ r ≡ neg d (weighed n (now (t .entry)) (destabilizerPower n (now (t .entry)) q) n % d) ⌝ }
 {
     let w = 2 * n + 1;
     let last = 2 * n;
-    let mut sum = 0;
+    let mut sum: u16 = 0;
     let mut i = 0;
     while i < n {
         let power = i * w + q;
         let phase = (n + i) * w + last;
-        sum += wide(t[power]) * wide(t[phase]);
+        sum += row::wide(t[power]) * row::wide(t[phase]);
         i += 1;
     }
-    modular::negative(d, modular::reduce_wide(sum, d, modular::wide_reciprocal(d)))
+    modular::negative(
+        d,
+        modular::reduce_wide(sum as u32, d, modular::wide_reciprocal(d)),
+    )
 }
 
 // The look at qudit q of the tableau that t, with even phases, stands for.

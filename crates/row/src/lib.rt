@@ -80,7 +80,7 @@ pub fn multiples(z: &mut [u8], x: u8, d: u8, m: u16)
     }
 }
 
-pub fn one_at(p: usize, s: usize) -> u8
+fn one_at(p: usize, s: usize) -> u8
     ensures { λ r. ⌜ r ≡ unit p s ⌝ }
 {
     if s == p { 1 } else { 0 }

@@ -1,15 +1,18 @@
 //! The fastest safe Rust that we could write for the same calls, on the same row-major bytes, with
 //! d and n known at run time only.
 //!
-//! What it has in common with the library: additions by an unsigned minimum, all multiples of the
-//! pivot made once, rows with power 0 passed over, half of the pairings. What it does beyond that:
+//! What it has in common with the library:
 //! - *Even phases.* From entry to exit a row's last byte holds r − ½ Σ a·b. It simply adds under
 //!   products of rows that commute, so a sweep adds whole rows, and of the gates only the phase gate
 //!   moves it. This leans on the tableau's validity, which each run has tested.
+//! - Additions by an unsigned minimum, all multiples of the pivot made once, half of the pairings.
 //! - Tables of rests and products for single bytes: what walks down a column of a row-major tableau
 //!   is not vectorised, and a look-up is cheaper there than arithmetic.
 //! - The rows that a free measurement changes are listed first, without a branch.
-//! - A certain product is one weighted sum of the stabilizers, reduced once.
+//! - A certain outcome is one sum of powers times phases, reduced once.
+//!
+//! What it does beyond that:
+//! - The tables are made once for each run.
 //! - Pairings are made of powers from −15 to 15, so that their sums fit 16 bits with a sign, two at
 //!   a time, and tested for divisibility without a division.
 
@@ -349,8 +352,8 @@ fn measure(
     [choice, 1]
 }
 
-/// The outcome that the weighted product of the stabilizers fixes. It is Z on q, so that its phase
-/// is all there is to make.
+/// The outcome that the weighted product of the stabilizers fixes, from even phases: they add up,
+/// and the product is Z on q, whose even phase is its phase.
 fn certain(rows: &[u8], n: usize, q: usize, m: &Modulo) -> u8 {
     let w = 2 * n + 1;
     let (destabilizers, stabilizers) = rows.split_at(n * w);

@@ -12,7 +12,7 @@ use Rattle.book.specs.Decoded.{operationsOf, errorsOf}
 use Rattle.book.proofs.Lists.{op-count}
 use Rattle.run.specs.Direct.{directStep}
 use Rattle.measure.proofs.Going.{Going, going-start, going-on, going-ends}
-use Rattle.direct.proofs.Answers.{run-done}
+use Rattle.direct.proofs.Answers.{run-ends}
 use Rattle.direct.proofs.run_even.Statement.{statement}
 use Rattle.direct.proofs.run_even.Tie as tie
 
@@ -78,7 +78,7 @@ returns c =
     let ops = operationsOf (a .d) (a .n) (now (a .ops)) in
     let all : length ops ≡ l .loop .k = omega (arith, op-count (a .d) (a .n) (now (a .ops))) in
     let g = going-ends _ _ _ _ (l .loop .inv .0) (omega arith) (omega arith) in
-    (run-done (a .d) (a .n) ops (errorsOf (now (a .errors))) (now (a .choices)) _ (g .stands .count) (g .so-far) (rw all (k .strike .ensures .0)), k .strike .ensures .1)
+    (run-ends (a .d) (a .n) ops (errorsOf (now (a .errors))) (now (a .choices)) _ (g .so-far) (rw all (k .strike .ensures .0)), g .stands .count, k .strike .ensures .1)
 
 pub run-even-spec : {M : Type 1} → statement M
 run-even-spec =

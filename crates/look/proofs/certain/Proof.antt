@@ -3,7 +3,7 @@
 use mathlib.Core.Path.{_≡_, refl, ap, _∙_}
 use mathlib.Core.List.{List}
 use Prim.Native.Nat.{ℕ, _+_, _-_, _*_, _%_, _<_, _≤_}
-use native.Mathlib.Nat.{le-antisymm, mod-lt, mul-le-mul}
+use native.Mathlib.Nat.{le-antisymm, mod-lt}
 use native.Mathlib.Numerals.{add-one}
 use native.Mathlib.Omega.{arith}
 use denote.Ref.{now}
@@ -32,9 +32,6 @@ one-more : (n q : ℕ) (t : List ℕ) (i : ℕ) → q < n → {sum x y : ℕ}
     → sum + x * y ≡ weighed n t (destabilizerPower n t q) (i + 1)
 unfolding weighed
 one-more n q t i l a b c = rw (add-one i, a, b, c, ← row-at n t i q (omega arith), ← row-at n t (n + i) (2 * n) (omega arith))
-
-product-fits : (x y : ℕ) → x < 256 → y < 256 → x * y ≤ 65025
-product-fits x y a b = let p : x ≤ 255 = omega arith in let q : y ≤ 255 = omega arith in omega (arith, mul-le-mul p q)
 
 small : (d n q : ℕ) (t : List ℕ) → Tableau d n t → d ≤ 31 → q < n → n ≤ 64 → (k : ℕ) → k ≤ n → weighed n t (destabilizerPower n t q) k ≤ 57600
 small d n q t h high lq size k l =
@@ -87,13 +84,17 @@ wide-requires-2 : tie.Need-wide-requires-2 Inv-loop μ-loop
 wide-requires-2 c κs = search needs
 
 mul-sum : tie.Need-mul-sum Inv-loop μ-loop
-mul-sum c = omega (arith, product-fits (c .before .before .wide .result) (c .wide2 .result) (c .before .before .wide .ensures .1) (c .wide2 .ensures .1))
+mul-sum c =
+    let l = c .before .before .before .before .before in
+    let s = l .before .before in
+    let next = one-more (s .args .n) (s .args .q) (now (s .args .t)) (l .loop .i) (s .pre .2) (l .loop .inv .1) (c .before .before .wide .ensures) (c .wide2 .ensures) in
+    omega (arith, next, small (s .args .d) (s .args .n) (s .args .q) (now (s .args .t)) (s .pre .4) (s .pre .1) (s .pre .2) (s .pre .3) (l .loop .i + 1) (omega (arith, c .before .before .before .before .loop-test .taken)))
 
 add-sum : tie.Need-add-sum Inv-loop μ-loop
 add-sum c =
     let l = c .before .before .before .before .before in
     let s = l .before .before in
-    let next = one-more (s .args .n) (s .args .q) (now (s .args .t)) (l .loop .i) (s .pre .2) (l .loop .inv .1) (c .before .before .wide .ensures .0) (c .wide2 .ensures .0) in
+    let next = one-more (s .args .n) (s .args .q) (now (s .args .t)) (l .loop .i) (s .pre .2) (l .loop .inv .1) (c .before .before .wide .ensures) (c .wide2 .ensures) in
     omega (arith, next, small (s .args .d) (s .args .n) (s .args .q) (now (s .args .t)) (s .pre .4) (s .pre .1) (s .pre .2) (s .pre .3) (l .loop .i + 1) (omega (arith, c .before .before .before .before .loop-test .taken)))
 
 add-i : tie.Need-add-i Inv-loop μ-loop
@@ -106,7 +107,13 @@ loop-again : tie.Need-loop-again Inv-loop μ-loop
 loop-again c =
     let l = c .before .before .before .before .before in
     let s = l .before .before in
-    (omega arith, one-more (s .args .n) (s .args .q) (now (s .args .t)) (l .loop .i) (s .pre .2) (l .loop .inv .1) (c .before .before .wide .ensures .0) (c .wide2 .ensures .0))
+    (omega arith, one-more (s .args .n) (s .args .q) (now (s .args .t)) (l .loop .i) (s .pre .2) (l .loop .inv .1) (c .before .before .wide .ensures) (c .wide2 .ensures))
+
+cast-reduce-wide : tie.Need-cast-reduce-wide Inv-loop μ-loop
+cast-reduce-wide c =
+    let l = c .before in
+    let s = l .before .before in
+    omega (arith, l .loop .inv .1, small (s .args .d) (s .args .n) (s .args .q) (now (s .args .t)) (s .pre .4) (s .pre .1) (s .pre .2) (s .pre .3) (l .loop .i) (l .loop .inv .0))
 
 wide-reciprocal-requires : tie.Need-wide-reciprocal-requires Inv-loop μ-loop
 wide-reciprocal-requires c κs = (c .before .before .before .pre .0, c .before .before .before .pre .1)
@@ -152,6 +159,7 @@ certain-spec =
     add-i
     loop-less
     loop-again
+    cast-reduce-wide
     wide-reciprocal-requires
     reduce-wide-requires
     negative-requires
