@@ -166,7 +166,7 @@ fn draw_level_gate(rng: &mut Rng, d: u8, levels: &mut [u8]) -> Operation {
 
 /// Measures every qudit of a drawn tableau, so that each has a level; sends the levels to others by
 /// gates and X errors, and measures again: each outcome is certain, and the level that it must be.
-/// The products of those measurements run over many stabilizers.
+/// The products of those measurements can run over many stabilizers.
 fn measure_levels(rng: &mut Rng, d: u8, n: u8) {
     let count = usize::from(n);
     let tableau = draw_tableau(rng, d, n);
