@@ -73,16 +73,13 @@ pub fn advance(
     ensures { λ r. ⌜ (record { rows = plain d n (now (t .exit)); results = now (results .exit); frame = now (frame .exit) } ≡ framedStep d n (operationsOf d n (now (ops .entry))) (errorsOf (now (errors .entry))) (now (choices .entry)) k (record { rows = plain d n (now (t .entry)); results = now (results .entry); frame = now (frame .entry) })) × Stands (operationsOf d n (now (ops .entry))) (errorsOf (now (errors .entry))) (k + 1) r × Valid d n (now (t .exit)) × Powers d n (now (frame .exit)) × (length (now (frame .exit)) ≡ length (now (frame .entry))) × (length (now (results .exit)) ≡ length (now (results .entry))) ⌝ }
 {
     let from = at.entry;
-    let j = at.measurements;
     let entry = strike(frame, errors, from, k, d, n);
     let Taken::Next(step) = entries::step_at(ops, k, d, n) else {
         // never: the reader let every entry pass
-        return Progress {
-            entry,
-            measurements: j,
-        };
+        return at;
     };
     let operation = step.operation;
+    let j = at.measurements;
     perform(t, results, frame, choices, operation, j, d, n);
     let measurements = j + circuit::tally(operation);
     Progress {
