@@ -1,4 +1,5 @@
--- Demand 3 over decoded lists: a Weyl error, wherever it strikes, may be carried to the end. The statements are proved in proofs/.
+-- Over decoded lists: both runs keep a tableau valid; and demand 3: a Weyl error, wherever it strikes, may be carried to the end.
+-- The statements are proved in proofs/.
 use mathlib.Core.Path.{_≡_}
 use mathlib.Core.Logic.{_↔_}
 use mathlib.Core.List.{List, [], _++_}

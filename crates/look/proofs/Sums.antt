@@ -22,32 +22,32 @@ use Rattle.outcome.specs.Look.{destabilizerPower, pivotOf, weighted}
 use Rattle.outcome.specs.EvenLook.{evenCombination}
 use Rattle.outcome.proofs.EvenLook.{even-row, one-phase, pivot-plain, weighted-plain}
 use Rattle.measurement.proofs.Certain.{certain-is-z, z-x}
-use Rattle.look.specs.Sums.{weighed}
+use Rattle.look.specs.Sums.{phaseSum}
 
 module _ (n : ℕ) (t : List ℕ) (h : ℕ → ℕ) where
   -- each row adds at most 30·30
-  pub weighed-small : Tableau 31 n t → ((i : ℕ) → i < n → h i < 31) → (k : ℕ) → k ≤ n → weighed n t h k ≤ 900 * k
-  unfolding weighed
-  weighed-small f small zero l = omega arith
-  weighed-small f small (suc k) l =
+  pub phase-sum-small : Tableau 31 n t → ((i : ℕ) → i < n → h i < 31) → (k : ℕ) → k ≤ n → phaseSum n t h k ≤ 900 * k
+  unfolding phaseSum
+  phase-sum-small f small zero l = omega arith
+  phase-sum-small f small (suc k) l =
       let a : h k ≤ 30 = omega (arith, small k (omega arith)) in
       let b : phaseOf n (row n t (n + k)) ≤ 30 = omega (arith, tableau-row 31 n t f (n + k) (omega arith) .below (2 * n) (omega arith)) in
-      omega (arith, mul-le-mul a b, weighed-small f small k (omega arith))
+      omega (arith, mul-le-mul a b, phase-sum-small f small k (omega arith))
 
   -- its rest is the phase of the product of rows with even phases
-  pub even-phase : (d k : ℕ) → phaseOf n (evenCombination d n t h k) ≡ weighed n t h k % d
-  unfolding evenCombination weighed scalar added scaled
+  pub even-phase : (d k : ℕ) → phaseOf n (evenCombination d n t h k) ≡ phaseSum n t h k % d
+  unfolding evenCombination phaseSum scalar added scaled
   even-phase d zero = row-phase n none 0 ∙ sym (zero-mod d)
   even-phase d (suc k) =
       let v = row n t (n + k) in
       let u = evenCombination d n t h k in
       row-phase n (sumAt d u (scaled d n (h k) v)) _
       ∙ ap₂ (λ (x y : ℕ). (x + y) % d) (even-phase d k) (row-phase n (timesAt d (h k) v) _)
-      ∙ mod-cong (cong-sym (cong-add (cong-mod d (weighed n t h k)) (cong-mod d (h k * phaseOf n v))))
+      ∙ mod-cong (cong-sym (cong-add (cong-mod d (phaseSum n t h k)) (cong-mod d (h k * phaseOf n v))))
 
 -- Where no stabilizer is a pivot, it is the phase of the weighted product of the tableau that t stands for.
 pub phase-plain : (d n : ℕ) → Dimension d → (t : List ℕ) → Valid d n t → (q : ℕ) → q < n → pivotOf n t q ≡ Nowhere
-    → weighed n t (destabilizerPower n t q) n % d ≡ phaseOf n (weighted d n (plain d n t) q)
+    → phaseSum n t (destabilizerPower n t q) n % d ≡ phaseOf n (weighted d n (plain d n t) q)
 phase-plain d n dim t ok q l e =
     let p = valid-as-plain d n dim t (valid-tableau d n t ok) .0 ok in
     let v = evenCombination d n t (destabilizerPower n t q) n in

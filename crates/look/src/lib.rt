@@ -9,7 +9,7 @@ ghost use Rattle.tableau.specs.Tableau.{Tableau};
 ghost use Rattle.validity.specs.Validity.{Valid};
 ghost use Rattle.even.specs.Even.{plain};
 ghost use Rattle.outcome.specs.Look.{destabilizerPower, pivotOf, look};
-ghost use Rattle.look.specs.Sums.{weighed};
+ghost use Rattle.look.specs.Sums.{phaseSum};
 use outcome::Look;
 use search::Place;
 
@@ -34,7 +34,7 @@ fn pivot_of(t: &[u8], q: usize, n: usize) -> Place
 // the product is Z on q, whose even phase is its phase.
 fn certain(t: &[u8], q: usize, d: u8, n: usize) -> u8
     requires { ⌜ (3 ≤ d) × (d ≤ 31) × (q < n) × (n ≤ 64) × Tableau d n (now t) ⌝ }
-    ensures { λ r. ⌜ r ≡ neg d (weighed n (now (t .entry)) (destabilizerPower n (now (t .entry)) q) n % d) ⌝ }
+    ensures { λ r. ⌜ r ≡ neg d (phaseSum n (now (t .entry)) (destabilizerPower n (now (t .entry)) q) n % d) ⌝ }
 {
     let w = 2 * n + 1;
     let last = 2 * n;

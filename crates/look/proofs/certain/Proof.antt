@@ -13,30 +13,34 @@ use Rattle.modular.specs.Modular.{neg}
 use Rattle.tableau.specs.Tableau.{Tableau}
 use Rattle.tableau.proofs.Parts.{row-room, row-at, tableau-row}
 use Rattle.outcome.specs.Look.{destabilizerPower}
-use Rattle.look.specs.Sums.{weighed}
-use Rattle.look.proofs.Sums.{weighed-small}
+use Rattle.look.specs.Sums.{phaseSum}
+use Rattle.look.proofs.Sums.{phase-sum-small}
 use Rattle.look.proofs.certain.Statement.{statement}
 use Rattle.look.proofs.certain.Tie as tie
 
 abbrev Inv-loop : tie.InvT-loop
-Inv-loop t q d n w last sum₀ i₀ sum i = (i ≤ n) × (sum ≡ weighed n t (destabilizerPower n t q) i)
+Inv-loop t q d n w last sum₀ i₀ sum i = (i ≤ n) × (sum ≡ phaseSum n t (destabilizerPower n t q) i)
 
 abbrev μ-loop : tie.MeasureT-loop
 μ-loop t q d n w last sum₀ i₀ sum i = n - i
 
 -- one stabilizer more: what is read is the power of destabilizer i and the phase of stabilizer i
 one-more : (n q : ℕ) (t : List ℕ) (i : ℕ) → q < n → {sum x y : ℕ}
-    → sum ≡ weighed n t (destabilizerPower n t q) i
+    → sum ≡ phaseSum n t (destabilizerPower n t q) i
     → x ≡ getD t (i * (2 * n + 1) + q) 0
     → y ≡ getD t ((n + i) * (2 * n + 1) + 2 * n) 0
-    → sum + x * y ≡ weighed n t (destabilizerPower n t q) (i + 1)
-unfolding weighed
+    → sum + x * y ≡ phaseSum n t (destabilizerPower n t q) (i + 1)
+unfolding phaseSum
 one-more n q t i l a b c = rw (add-one i, a, b, c, ← row-at n t i q (omega arith), ← row-at n t (n + i) (2 * n) (omega arith))
 
-small : (d n q : ℕ) (t : List ℕ) → Tableau d n t → d ≤ 31 → q < n → n ≤ 64 → (k : ℕ) → k ≤ n → weighed n t (destabilizerPower n t q) k ≤ 57600
+small : (d n q : ℕ) (t : List ℕ) → Tableau d n t → d ≤ 31 → q < n → n ≤ 64 → (k : ℕ) → k ≤ n → phaseSum n t (destabilizerPower n t q) k ≤ 57600
 small d n q t h high lq size k l =
     let f : Tableau 31 n t = record { room = h .room; below = λ i b. omega (arith, h .below i b) } in
-    omega (arith, weighed-small n t (destabilizerPower n t q) f (λ i b. tableau-row 31 n t f i (omega arith) .below q (omega arith)) k l)
+    omega (arith, phase-sum-small n t (destabilizerPower n t q) f (λ i b. tableau-row 31 n t f i (omega arith) .below q (omega arith)) k l)
+
+next-small : (d n q : ℕ) (t : List ℕ) → Tableau d n t → d ≤ 31 → q < n → n ≤ 64 → (i : ℕ) → i < n → {next : ℕ}
+    → next ≡ phaseSum n t (destabilizerPower n t q) (i + 1) → next ≤ 57600
+next-small d n q t h high lq size i l e = rw e (small d n q t h high lq size (i + 1) (omega arith))
 
 mul-w : tie.Need-mul-w Inv-loop μ-loop
 mul-w c = omega arith
@@ -48,7 +52,7 @@ mul-last : tie.Need-mul-last Inv-loop μ-loop
 mul-last c = omega arith
 
 loop-holds : tie.Need-loop-holds Inv-loop μ-loop
-unfolding weighed
+unfolding phaseSum
 loop-holds c = (omega arith, refl)
 
 mul-power : tie.Need-mul-power Inv-loop μ-loop
@@ -87,15 +91,13 @@ mul-sum : tie.Need-mul-sum Inv-loop μ-loop
 mul-sum c =
     let l = c .before .before .before .before .before in
     let s = l .before .before in
-    let next = one-more (s .args .n) (s .args .q) (now (s .args .t)) (l .loop .i) (s .pre .2) (l .loop .inv .1) (c .before .before .wide .ensures) (c .wide2 .ensures) in
-    omega (arith, next, small (s .args .d) (s .args .n) (s .args .q) (now (s .args .t)) (s .pre .4) (s .pre .1) (s .pre .2) (s .pre .3) (l .loop .i + 1) (omega (arith, c .before .before .before .before .loop-test .taken)))
+    omega (arith, next-small (s .args .d) (s .args .n) (s .args .q) (now (s .args .t)) (s .pre .4) (s .pre .1) (s .pre .2) (s .pre .3) (l .loop .i) (c .before .before .before .before .loop-test .taken) (one-more (s .args .n) (s .args .q) (now (s .args .t)) (l .loop .i) (s .pre .2) (l .loop .inv .1) (c .before .before .wide .ensures) (c .wide2 .ensures)))
 
 add-sum : tie.Need-add-sum Inv-loop μ-loop
 add-sum c =
     let l = c .before .before .before .before .before in
     let s = l .before .before in
-    let next = one-more (s .args .n) (s .args .q) (now (s .args .t)) (l .loop .i) (s .pre .2) (l .loop .inv .1) (c .before .before .wide .ensures) (c .wide2 .ensures) in
-    omega (arith, next, small (s .args .d) (s .args .n) (s .args .q) (now (s .args .t)) (s .pre .4) (s .pre .1) (s .pre .2) (s .pre .3) (l .loop .i + 1) (omega (arith, c .before .before .before .before .loop-test .taken)))
+    omega (arith, next-small (s .args .d) (s .args .n) (s .args .q) (now (s .args .t)) (s .pre .4) (s .pre .1) (s .pre .2) (s .pre .3) (l .loop .i) (c .before .before .before .before .loop-test .taken) (one-more (s .args .n) (s .args .q) (now (s .args .t)) (l .loop .i) (s .pre .2) (l .loop .inv .1) (c .before .before .wide .ensures) (c .wide2 .ensures)))
 
 add-i : tie.Need-add-i Inv-loop μ-loop
 add-i c = omega arith
@@ -133,7 +135,7 @@ returns c =
     let l = r .before .before .before in
     let s = l .before .before in
     let all : l .loop .i ≡ s .args .n = le-antisymm (l .loop .inv .0) (r .before .before .loop-test .left) in
-    c .negative .ensures ∙ ap (neg (s .args .d)) (r .reduce-wide .ensures ∙ ap (λ (x : ℕ). x % s .args .d) (l .loop .inv .1 ∙ ap (weighed (s .args .n) (now (s .args .t)) _) all))
+    c .negative .ensures ∙ ap (neg (s .args .d)) (r .reduce-wide .ensures ∙ ap (λ (x : ℕ). x % s .args .d) (l .loop .inv .1 ∙ ap (phaseSum (s .args .n) (now (s .args .t)) _) all))
 
 pub certain-spec : {M : Type 1} → statement M
 certain-spec =
