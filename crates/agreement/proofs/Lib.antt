@@ -1,5 +1,7 @@
--- Demand 3 for whole books, what refusals leave, and what runs leave.
+-- Demand 3 and the verdict for whole books, what refusals leave, and what runs leave.
+pub mod Left
 pub mod Second
 pub mod Demand3
+pub mod Clean
 pub mod Refusals
 pub mod LeavesValid

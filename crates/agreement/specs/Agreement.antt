@@ -1,18 +1,17 @@
 -- Demand 3: a Weyl error, wherever it strikes, may be carried to the end. One claim about the whole book, with every list of
 -- operations and errors that it may hold. The statements are proved in proofs/.
 use mathlib.Core.Path.{_≡_}
-use mathlib.Core.Bool.{true}
 use mathlib.Core.List.{List, _++_}
-use Prim.Native.Nat.{ℕ, _+_, _*_, _<_, _≤_}
+use Prim.Native.Nat.{ℕ, _+_, _*_, _<_}
 use lib.ListN.{length, getD, take}
-use Rattle.validity.specs.Validity.{valid}
 use Rattle.body.specs.Body.{accepted}
 use Rattle.book.specs.Book.{offsetOf, readBook, bodyOf}
 use Rattle.book.specs.Decoded.{opsIn, errorsIn, choicesIn, measurementsIn}
 use Rattle.run.specs.Frame.{noFrame}
 use Rattle.run.specs.Raised.{raised}
 use Rattle.direct.specs.DirectBook.{Left, directBook}
-use Rattle.framed.specs.FrameBook.{FrameLeft, frameBook}
+use Rattle.framed.specs.FrameBook.{Buffers, FrameLeft, frameBook}
+use Rattle.agreement.specs.Lent.{Lent}
 
 -- The second book: the choice of each measurement is raised, modulo d, by the X power which the frame of the first book's errors
 -- has on the measured qudit just before that measurement. The choices are the last body; no byte before them differs.
@@ -46,15 +45,5 @@ pub record Alike (n measurements : ℕ) (struck : Left) (carried : FrameLeft) : 
 -- and a frame run of the first, each on its own copy of that tableau.
 abbrev pub Demand3 : Type 0
 Demand3 = (s : List ℕ) (d n operations errors choices : ℕ) → readBook s ≡ accepted d n operations errors choices
-    → (t t' results results' shifts frame : List ℕ)
-    → 2 * n * (2 * n + 1) ≤ length t
-    → valid d n t ≡ true
-    → 2 * n * (2 * n + 1) ≤ length t'
-    → ((i : ℕ) → i < 2 * n * (2 * n + 1) → getD t' i 0 ≡ getD t i 0)
-    → 2 * measurementsIn s d n ≤ length results
-    → 2 * measurementsIn s d n ≤ length results'
-    → 2 * n ≤ length shifts
-    → 2 * n ≤ length frame
-    → Alike n (measurementsIn s d n)
-    (directBook (raisedBook d n s) t' results')
-    (frameBook s (record { tableau = t; results = results; shifts = shifts; frame = frame }))
+    → (t results : List ℕ) (lent : Buffers) → Lent d n (measurementsIn s d n) t results lent
+    → Alike n (measurementsIn s d n) (directBook (raisedBook d n s) t results) (frameBook s lent)

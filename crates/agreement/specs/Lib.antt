@@ -1,3 +1,5 @@
+pub mod Lent
 pub mod Agreement
+pub mod Clean
 pub mod Refusals
 pub mod LeavesValid

@@ -6,15 +6,16 @@ use mathlib.Core.List.{List}
 use Prim.Native.Nat.{ℕ, _+_, _≤_}
 use native.Mathlib.Omega.{arith}
 use lib.Dec.{eqb, leb}
-use lib.ListN.{length, getD}
+use lib.ListN.{length, getD, drop, length-drop}
+use lib.Seq.{length-take-le}
 use borrow.Author.Tests.{eqb-true, leb-true}
 use Rattle.modular.specs.Dimension.{listed}
 use Rattle.tableau.specs.Tableau.{sized}
 use Rattle.search.specs.declared.Place.the-variants.{Nowhere}
-use Rattle.body.specs.Body.{Told, accepted, readBodies}
+use Rattle.body.specs.Body.{lengthFits, Told, accepted, readBodies}
 use Rattle.search.proofs.Search.{met, some-place}
 use Rattle.body.proofs.Sound.{NoRefusal, nowhere}
-use Rattle.book.specs.Book.{headed, dimensionOf, quditsOf, offsetOf, endOf, partOf, entryFits, badContents, readBook, ofKind, bodyOf}
+use Rattle.book.specs.Book.{headed, dimensionOf, quditsOf, offsetOf, lengthOf, endOf, partOf, entryFits, badContents, readBook, ofKind, bodyOf}
 
 pub record Passed (s : List ℕ) (t : Told) : Type 0 where
   pub head : headed s ≡ true
@@ -37,19 +38,24 @@ pub head-room : (s : List ℕ) → headed s ≡ true → 22 ≤ length s
 unfolding headed
 head-room s e = leb-true _ _ (and-eq-true-iff (leb 22 (length s)) _ .0 e .0)
 
--- each body begins where the last one ended, and the book ends with the third
+-- each body is of whole entries and begins where the last one ended, and the book ends with the third
 pub record Laid (s : List ℕ) : Type 0 where
   pub first : offsetOf s 4 ≡ 22
   pub second : offsetOf s 10 ≡ endOf s 4
   pub third : offsetOf s 16 ≡ endOf s 10
   pub ends : endOf s 16 ≡ length s
+  pub first-whole : lengthFits (lengthOf s 4) 4 4096 ≡ true
+  pub second-whole : lengthFits (lengthOf s 10) 5 2048 ≡ true
+  pub third-whole : lengthFits (lengthOf s 16) 1 4096 ≡ true
 
-begins : (s : List ℕ) (at kind start size most : ℕ) → entryFits s at kind start size most ≡ true → offsetOf s at ≡ start
+fits : (s : List ℕ) (at kind start size most : ℕ) → entryFits s at kind start size most ≡ true
+    → (offsetOf s at ≡ start) × (lengthFits (lengthOf s at) size most ≡ true)
 unfolding entryFits
-begins s at kind start size most e =
+fits s at kind start size most e =
     let e1 = and-eq-true-iff (eqb (getD s at 0) kind) _ .0 e .1 in
     let e2 = and-eq-true-iff (eqb (getD s (at + 1) 0) 0) _ .0 e1 .1 in
-    eqb-true _ _ (and-eq-true-iff (eqb (offsetOf s at) start) _ .0 e2 .0)
+    let e3 = and-eq-true-iff (eqb (offsetOf s at) start) _ .0 e2 in
+    (eqb-true _ _ (e3 .0), e3 .1)
 
 pub laid : (s : List ℕ) → badContents s ≡ Nowhere → Laid s
 unfolding badContents
@@ -58,11 +64,17 @@ laid s e =
     let m1 = met (entryFits s 10 2 (endOf s 4) 5 2048) some-place (m0 .1) in
     let m2 = met (entryFits s 16 3 (endOf s 10) 1 4096) some-place (m1 .1) in
     let m3 = met (eqb (endOf s 16) (length s)) some-place (m2 .1) in
+    let f0 = fits s 4 1 22 4 4096 (m0 .0) in
+    let f1 = fits s 10 2 (endOf s 4) 5 2048 (m1 .0) in
+    let f2 = fits s 16 3 (endOf s 10) 1 4096 (m2 .0) in
     record {
-      first = begins s 4 1 22 4 4096 (m0 .0);
-      second = begins s 10 2 (endOf s 4) 5 2048 (m1 .0);
-      third = begins s 16 3 (endOf s 10) 1 4096 (m2 .0);
+      first = f0 .0;
+      second = f1 .0;
+      third = f2 .0;
       ends = eqb-true _ _ (m3 .0);
+      first-whole = f0 .1;
+      second-whole = f1 .1;
+      third-whole = f2 .1;
     }
 
 -- the header and the bodies lie within the book
@@ -74,6 +86,10 @@ pub record Inside (s : List ℕ) : Type 0 where
 
 pub inside : (s : List ℕ) → headed s ≡ true → badContents s ≡ Nowhere → Inside s
 inside s h e = let l = laid s e in record { room = head-room s h; first = omega arith; second = omega arith; third = omega arith }
+
+-- a body that lies within the book has its length
+pub part-length : (s : List ℕ) (at : ℕ) → endOf s at ≤ length s → length (partOf s at) ≡ lengthOf s at
+part-length s at l = length-take-le (lengthOf s at) (drop (offsetOf s at) s) (omega (arith, length-drop (offsetOf s at) s))
 
 -- an accepted book's bodies are handed back by their kinds
 pub by-kind : {d n operations errors choices : ℕ} (s : List ℕ) (kind : ℕ) → readBook s ≡ accepted d n operations errors choices

@@ -14,7 +14,7 @@ use Rattle.entries.specs.Entry.{word}
 use Rattle.body.specs.Body.{measurements, goodChoice, badChoice, Told, accepted, readBodies}
 use Rattle.body.proofs.Sound.{no-refusal, Sound, all-sound, one-each}
 use Rattle.book.specs.Book.{headed, dimensionOf, quditsOf, offsetOf, lengthOf, endOf, partOf, entryFits, badContents, readBook, bodyOf}
-use Rattle.book.proofs.Contents.{Passed, all-passed, Laid, laid, by-kind}
+use Rattle.book.proofs.Contents.{Passed, all-passed, Laid, laid, part-length, by-kind}
 use Rattle.book.proofs.Meaning.{accepted-means}
 
 -- two books of one length, alike in their first m bytes
@@ -108,7 +108,7 @@ module _ {d n operations errors choices : ℕ} (s c : List ℕ) (e : readBook s 
   as-many = count ∙ ap length (by-kind s 3 e)
 
   to-end : length c ≡ lengthOf s 16
-  to-end = as-many ∙ simp (length-take, length-drop) (omega (arith, lies .ends))
+  to-end = as-many ∙ part-length s 16 (omega (arith, lies .ends))
 
   begins : Begin (offsetOf s 16) s u
   begins =

@@ -1,4 +1,5 @@
--- The frame run is the clean run, without errors, with the carried frame added to rows and results. So it keeps validity as well.
+-- The frame run is the clean run, without errors, with the carried frame added to rows and results. So it keeps validity as well,
+-- and its verdict is clean exactly if both runs end with the same stabilizer set.
 -- Assumes nothing.
 use mathlib.Core.Path.{_≡_, refl, sym, ap}
 use mathlib.Core.List.{List, []}
@@ -15,15 +16,16 @@ use Rattle.outcome.specs.declared.Look.the-variants.{Free, Certain}
 use Rattle.outcome.specs.Look.{look}
 use Rattle.run.specs.Run.{onward, noted}
 use Rattle.run.specs.Direct.{State, strike, directLook, directKind, directStrike, directStep, directRun}
-use Rattle.run.specs.Frame.{Framed, shiftRows, framedLook, framedKind, framedStrike, framedStep, framedAll, framedLeave, frameRunFrom}
+use Rattle.run.specs.Frame.{Framed, shiftRows, verdictOf, framedLook, framedKind, framedStrike, framedStep, framedAll, framedLeave, frameRunFrom}
 use Rattle.run.specs.Raised.{carryBy, struckFrame, carried, finalFrame, resultShifts}
 use Rattle.run.proofs.Results.{measured-before}
 use Rattle.run.proofs.Shifts.{shift-of}
-use Rattle.carrying.specs.Carrying.{FrameKeepsValid, CleanPlus, FrameIsClean}
+use Rattle.carrying.specs.Carrying.{FrameKeepsValid, CleanPlus, FrameIsClean, CleanLists}
 use Rattle.carrying.proofs.Looks.{shift-keeps-valid}
 use Rattle.carrying.proofs.Books.{without-errors}
 use Rattle.carrying.proofs.Sound.{run-keeps-valid}
 use Rattle.carrying.proofs.Told.{Told, told-none, told-more}
+use Rattle.carrying.proofs.Verdict.{clean-rows}
 
 -- the reported outcome y of measurement j, from the clean one
 abbrev Shifted : ℕ → List ℕ → ℕ → ℕ → ℕ → Type 0
@@ -104,6 +106,12 @@ module _ (room : Type 0) (d n : ℕ) (ops : List Operation) (errors : List WeylE
     unfolding directRun frameRunFrom framedAll framedLeave directStrike framedStrike strike struckFrame
     rows-shifted shiftBuffer frame = rw (plus-all .rows, plus-all .frame)
 
+    verdict-shifted : (shiftBuffer frame : List ℕ)
+        → frameRunFrom d n ops errors choices F st shiftBuffer frame .verdict
+        ≡ verdictOf d n (finalFrame d n ops errors F) (directRun d n ops [] choices st .rows)
+    unfolding directRun frameRunFrom framedAll framedLeave directStrike framedStrike strike struckFrame
+    verdict-shifted shiftBuffer frame = rw (plus-all .rows, plus-all .frame)
+
     clean-plus : room → (shiftBuffer frame : List ℕ)
         → CleanPlus d n ops errors F frame (directRun d n ops [] choices st) (frameRunFrom d n ops errors choices F st shiftBuffer frame)
     unfolding directRun frameRunFrom framedAll framedLeave directStrike framedStrike strike struckFrame
@@ -111,6 +119,7 @@ module _ (room : Type 0) (d n : ℕ) (ops : List Operation) (errors : List WeylE
         record {
           final = rw (plus-all .frame);
           rows = rows-shifted shiftBuffer frame;
+          verdict = verdict-shifted shiftBuffer frame;
           outcomes = plus-all .results r .outcome;
           marks = plus-all .results r .mark;
         }
@@ -119,8 +128,16 @@ pub frame-is-clean : FrameIsClean
 frame-is-clean d n ops errors choices F st shifts frame room =
     clean-plus (2 * measured ops (length ops) ≤ length (st .results)) d n ops errors choices F st (λ r. r) room shifts frame
 
--- Rows do not depend on results, so no room is asked for.
+-- Rows and verdict do not depend on results, so no room is asked for.
 pub frame-keeps-valid : FrameKeepsValid
 frame-keeps-valid d n dim ops errors choices F ac st ok shifts frame =
     rw (rows-shifted ⊥ d n ops errors choices F st (λ r. absurd r) shifts frame)
     (shift-keeps-valid d n dim _ _ (run-keeps-valid d n dim ops [] choices (without-errors ac) st ok))
+
+pub clean-lists : CleanLists
+clean-lists d n dim ops errors choices F ac st ok shifts frame =
+    rw (
+      verdict-shifted ⊥ d n ops errors choices F st (λ r. absurd r) shifts frame,
+      rows-shifted ⊥ d n ops errors choices F st (λ r. absurd r) shifts frame,
+    )
+    (clean-rows d n dim _ _ (run-keeps-valid d n dim ops [] choices (without-errors ac) st ok))

@@ -8,5 +8,5 @@ pub mod Fold
 pub mod Told
 pub mod Window
 pub mod Buffers
-pub mod Clean
 pub mod Verdict
+pub mod Clean

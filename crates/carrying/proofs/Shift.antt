@@ -1,14 +1,14 @@
 -- To shift a row's phase by its pairing with a frame is a map of rows that goes with products and powers. A gate after it is the
 -- shift by the mapped frame after the gate, and an error after it is the shift by the frame with that error.
 -- Assumes nothing.
-use mathlib.Core.Path.{_≡_, ap}
+use mathlib.Core.Path.{_≡_, sym, ap, _∙_}
 use mathlib.Core.Bool.{true}
 use mathlib.Core.List.{List}
 use Prim.Native.Nat.{ℕ, zero, suc, _+_, _*_, _%_, _<_}
 use native.Mathlib.Nat.{add-zero, mod-lt, mod-eq-of-lt}
 use native.Mathlib.Omega.{arith}
 use lib.ListN.{getD}
-use lib.Seq.{set-getD}
+use lib.Seq.{set-getD, getD-set-same}
 use Rattle.congruence.proofs.Congruence.{Cong, cong-refl, cong-eq, cong-sym, cong-trans, cong-add, cong-mul-left, cong-mod, small-cong}
 use Rattle.symplectic.proofs.Pairing.{half-none-left, half-none-right, pair, pair-add-right, pair-scale-right, pair-cong, pair-flip, zed, pair-zed}
 use Rattle.symplectic.proofs.Map.{pair-map}
@@ -38,8 +38,8 @@ module _ (e n : ℕ) (F : List ℕ) where
       made (suc e) n v u _ _ (a .len) (λ s l. a .small s (omega arith)) (a .powers) (mod-lt _ (omega arith))
       (cong-trans (cong-sym (cong-mod (suc e) _)) (cong-add (a .phase) (pairing-means (means-self (suc e) n F) (means a))))
 
--- A frame of no powers pairs to 0, and leaves every row.
-pub pairing-none : (d n : ℕ) (F v : List ℕ) → 0 < d → ((s : ℕ) → s < 2 * n → getD F s 0 ≡ 0) → pairing d n F v ≡ 0
+-- A frame of no powers pairs to 0.
+pairing-none : (d n : ℕ) (F v : List ℕ) → 0 < d → ((s : ℕ) → s < 2 * n → getD F s 0 ≡ 0) → pairing d n F v ≡ 0
 pairing-none zero n F v low h = absurd (omega arith)
 pairing-none (suc e) n F v low h =
     small-cong
@@ -51,11 +51,25 @@ pairing-none (suc e) n F v low h =
     none : Means (suc e) n F (λ s. 0) (phaseOf n F)
     none = record { powers = λ s l. cong-eq (suc e) (h s (omega arith)); phase = cong-refl (suc e) _ }
 
+-- A row stays exactly if the frame pairs to 0 with it.
+module _ (d n : ℕ) (F : List ℕ) {v : List ℕ} (a : Row d n v) where
+  pub shift-stays : pairing d n F v ≡ 0 → shiftRow d n F v ≡ v
+  unfolding shiftRow
+  shift-stays e =
+      let same : (phaseOf n v + 0) % d ≡ phaseOf n v = rw add-zero (mod-eq-of-lt (a .below (2 * n) (omega arith))) in
+      rw (e, same) (set-getD v (2 * n) 0)
+
+  pub stays-pairs : shiftRow d n F v ≡ v → pairing d n F v ≡ 0
+  unfolding shiftRow
+  stays-pairs e =
+      let x = pairing d n F v in
+      let r = phaseOf n v in
+      let there : phaseOf n (shiftRow d n F v) ≡ (r + x) % d = getD-set-same v (2 * n) _ 0 (omega (arith, a .len)) in
+      let c : Cong d (r + x) r = cong-trans (cong-mod d (r + x)) (cong-eq d (sym there ∙ ap (phaseOf n) e)) in
+      small-cong (record { p = c .p; q = c .q; eq = omega (arith, c .eq) }) (pairing-small (positive a) n F v) (positive a)
+
 pub shift-none : (d n : ℕ) (F : List ℕ) → ((s : ℕ) → s < 2 * n → getD F s 0 ≡ 0) → {v : List ℕ} → Row d n v → shiftRow d n F v ≡ v
-unfolding shiftRow
-shift-none d n F h {v} a =
-    let same : (phaseOf n v + 0) % d ≡ phaseOf n v = rw add-zero (mod-eq-of-lt (a .below (2 * n) (omega arith))) in
-    rw (pairing-none d n F v (positive a) h, same) (set-getD v (2 * n) 0)
+shift-none d n F h {v} a = shift-stays d n F a (pairing-none d n F v (positive a) h)
 
 -- Products, powers, and the product of no rows.
 pub shift-product : (d n : ℕ) (F : List ℕ) {v w : List ℕ} → Row d n v → Row d n w

@@ -1,5 +1,5 @@
--- Over decoded lists: both runs keep a tableau valid; and demand 3: a Weyl error, wherever it strikes, may be carried to the end.
--- The statements are proved in proofs/.
+-- Over decoded lists: both runs keep a tableau valid; demand 3: a Weyl error, wherever it strikes, may be carried to the end; and
+-- what the verdict says. The statements are proved in proofs/.
 use mathlib.Core.Path.{_≡_}
 use mathlib.Core.Logic.{_↔_}
 use mathlib.Core.List.{List, [], _++_}
@@ -11,6 +11,7 @@ use Rattle.operation.specs.declared.Operation.{Operation}
 use Rattle.operation.specs.declared.WeylError.{WeylError}
 use Rattle.circuit.specs.Circuit.{measured, Accepted}
 use Rattle.validity.specs.Validity.{Valid}
+use Rattle.measurement.specs.Stabilizers.{SameSet}
 use Rattle.run.specs.Direct.{State, directStep, directRun}
 use Rattle.run.specs.Frame.{Ended, noFrame, shiftRows, verdictOf, frameRunFrom, frameRun}
 use Rattle.run.specs.Raised.{finalFrame, resultShifts, raised}
@@ -62,10 +63,12 @@ CarriedFrom = (d n : ℕ) → Dimension d → (ops : List Operation) (errors : L
     (directRun d n ops errors (raised d n ops errors F choices) (record { rows = shiftRows d n F t; results = results }))
     (frameRunFrom d n ops errors choices F (record { rows = t; results = results }) shifts frame)
 
--- The frame run is the clean run, without errors, with the final frame added: to the rows, and to each result its shift.
+-- The frame run is the clean run, without errors, with the final frame added: to the rows, which give the verdict, and to each
+-- result its shift.
 pub record CleanPlus (d n : ℕ) (ops : List Operation) (errors : List WeylError) (F frame : List ℕ) (clean : State) (framed : Ended) : Type 0 where
   pub final : framed .frame ≡ finalFrame d n ops errors F ++ drop (2 * n) frame
   pub rows : framed .rows ≡ shiftRows d n (finalFrame d n ops errors F) (clean .rows)
+  pub verdict : framed .verdict ≡ verdictOf d n (finalFrame d n ops errors F) (clean .rows)
   pub outcomes : (j : ℕ) → j < measured ops (length ops)
       → getD (framed .results) (2 * j) 0 ≡ (getD (clean .results) (2 * j) 0 + getD (resultShifts d n ops errors 0 F (length ops)) j 0) % d
   pub marks : (j : ℕ) → j < measured ops (length ops) → getD (framed .results) (2 * j + 1) 0 ≡ getD (clean .results) (2 * j + 1) 0
@@ -75,7 +78,16 @@ FrameIsClean = (d n : ℕ) (ops : List Operation) (errors : List WeylError) (cho
     → 2 * measured ops (length ops) ≤ length (st .results)
     → CleanPlus d n ops errors F frame (directRun d n ops [] choices st) (frameRunFrom d n ops errors choices F st shifts frame)
 
--- On a valid tableau the verdict is clean exactly if the final frame is 0.
-abbrev pub CleanExactly : Type 0
-CleanExactly = (d n : ℕ) → Dimension d → (t F : List ℕ) → Valid d n t → Powers d n F
-    → (verdictOf d n F t ≡ 0) ↔ ((s : ℕ) → s < 2 * n → getD F s 0 ≡ 0)
+-- The verdict of a frame on a valid tableau is clean exactly if the rows shifted by it have the same stabilizer set.
+abbrev pub CleanRows : Type 0
+CleanRows = (d n : ℕ) → Dimension d → (t F : List ℕ) → Valid d n t
+    → (verdictOf d n F t ≡ 0) ↔ SameSet d n (shiftRows d n F t) t
+
+-- So the verdict of a frame run, from any starting frame F, is clean exactly if it, and a direct run without the errors from the
+-- same start, end with the same stabilizer set.
+abbrev pub CleanLists : Type 0
+CleanLists = (d n : ℕ) → Dimension d → (ops : List Operation) (errors : List WeylError) (choices F : List ℕ)
+    → Accepted d n ops errors choices
+    → (st : State) → Valid d n (st .rows) → (shifts frame : List ℕ)
+    → let framed = frameRunFrom d n ops errors choices F st shifts frame in
+    (framed .verdict ≡ 0) ↔ SameSet d n (framed .rows) (directRun d n ops [] choices st .rows)

@@ -4,3 +4,4 @@ pub mod Looks
 pub mod Certain
 pub mod Free
 pub mod Generates
+pub mod Sets

@@ -1,6 +1,6 @@
 -- The stabilizer set, and sets that rows generate.
 use mathlib.Core.Path.{_≡_}
-use mathlib.Core.Logic.{_⊎_}
+use mathlib.Core.Logic.{_⊎_, _↔_}
 use mathlib.Core.List.{List}
 use Prim.Native.Nat.{ℕ, _<_}
 use Rattle.modular.specs.Modular.{neg}
@@ -13,6 +13,10 @@ pub record Stabilizes (d n : ℕ) (t v : List ℕ) : Type 0 where
   pub exponents : ℕ → ℕ
   pub below : (i : ℕ) → i < n → exponents i < d
   pub spelled : v ≡ combination d n t exponents n
+
+-- Two tableaus have the same stabilizer set.
+abbrev pub SameSet : (d n : ℕ) → List ℕ → List ℕ → Type 0
+SameSet d n t u = (v : List ℕ) → Stabilizes d n t v ↔ Stabilizes d n u v
 
 -- The set that the given rows generate: the least that holds them and is closed under the row product.
 pub data Generated (d n : ℕ) (given : List ℕ → Type 0) : List ℕ → Type 0 where

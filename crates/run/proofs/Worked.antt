@@ -63,9 +63,17 @@ Free = Both 1 (Measure 0 ∷ Fourier 0 ∷ Measure 0 ∷ []) (record { place = 2
     (9 ∷ 9 ∷ 9 ∷ 9 ∷ [])
     (record { rows = 1 ∷ 0 ∷ 0 ∷ 0 ∷ 1 ∷ 0 ∷ []; results = 0 ∷ 0 ∷ 0 ∷ 1 ∷ []; shifts = 0 ∷ 2 ∷ []; frame = 1 ∷ 0 ∷ []; verdict = 1 })
 
-worked : Book × Ends × Free
+-- Z on level 0 shifts the destabilizer alone: the state stays, and the verdict is clean.
+abbrev Level0 : Type 0
+Level0 = Both 1 [] (record { place = 0; qudit = 0; p = 0; s = 1 } ∷ []) [] []
+    (1 ∷ 0 ∷ 0 ∷ 0 ∷ 1 ∷ 0 ∷ [])
+    []
+    (record { rows = 1 ∷ 0 ∷ 1 ∷ 0 ∷ 1 ∷ 0 ∷ []; results = []; shifts = 1 ∷ 0 ∷ []; frame = 0 ∷ 1 ∷ []; verdict = 0 })
+
+worked : Book × Ends × Free × Level0
 unfolding onward noted measured frameRun frameRunFrom framedStep framedKind framedLook framedStrike framedAll framedLeave verdictOf shiftRow strikeFrame errorFrame raised resultShifts shiftBy carried carryBy struckFrame directRun directStep directKind directLook directStrike strike errorRow look pivotOf firstNot combination weighted all collapse collapseRow eachRow part put product power pairing scalar zWith rowOf tab dot gateRow gatePowers gatePhase inverse inverseBelow
 worked = (
+  record { framed = refl; raises = refl; struck = refl },
   record { framed = refl; raises = refl; struck = refl },
   record { framed = refl; raises = refl; struck = refl },
   record { framed = refl; raises = refl; struck = refl },

@@ -39,12 +39,12 @@ shiftRow d n F v = withPhase n ((phaseOf n v + pairing d n F v) % d) v
 abbrev pub shiftRows : ℕ → ℕ → List ℕ → List ℕ → List ℕ
 shiftRows d n F t = onRows n (every (shiftRow d n F)) t
 
--- The verdict is clean when all 2n shifts are 0, else shifted: 0 clean, 1 shifted.
+-- The verdict is clean exactly when the n stabilizer shifts are 0, else shifted: 0 clean, 1 shifted. Stabilizer i is row n + i.
 abbrev pub noShift : ℕ → ℕ → List ℕ → List ℕ → ℕ → Bool
-noShift d n F t i = eqb (shiftAt d n F t i) 0
+noShift d n F t i = eqb (shiftAt d n F t (n + i)) 0
 
 unfoldable pub verdictOf : ℕ → ℕ → List ℕ → List ℕ → ℕ
-verdictOf d n F t = cond (all (noShift d n F t) (2 * n)) 0 1
+verdictOf d n F t = cond (all (noShift d n F t) n) 0 1
 
 pub record Framed : Type 0 where
   pub rows : List ℕ

@@ -47,15 +47,14 @@ fn shift_rows(t: &mut [u8], shifts: &mut [u8], frame: &[u8], d: u8, n: usize)
     }
 }
 
-// 0 clean where all 2n shifts are 0, else 1 shifted.
+// 0 clean where the n stabilizer shifts are 0, else 1 shifted.
 fn verdict(shifts: &[u8], n: usize) -> usize
     requires { ⌜ 2 * n ≤ length (now shifts) ⌝ }
-    ensures { λ r. ⌜ r ≡ cond (all (isZero (now (shifts .entry))) (2 * n)) 0 1 ⌝ }
+    ensures { λ r. ⌜ r ≡ cond (all (isZero n (now (shifts .entry))) n) 0 1 ⌝ }
 {
-    let rows = 2 * n;
     let mut i = 0;
-    while i < rows {
-        if shifts[i] != 0 {
+    while i < n {
+        if shifts[n + i] != 0 {
             return 1;
         }
         i += 1;

@@ -119,12 +119,6 @@ module _ (e n : ℕ) (le : 1 ≤ e) (inv : Inverses (suc e)) (v : ℕ → ℕ �
       (cong-refl d (sum n (λ i. pair e n x (v i) * v (n + i) s))))
       (cong-eq d (omega arith)))
 
-  -- Nothing but zero commutes with every row.
-  pub nondegenerate : (x : ℕ → ℕ) → ((r : ℕ) → r < n + n → Cong d (pair e n x (v r)) 0) → Same d n x (λ s. 0)
-  nondegenerate x h s l =
-      cong-trans (commuting x (λ i li. h (n + i) (omega arith)) s l)
-      (sum-none d n (λ i. pair e n x (v i) * v (n + i) s) (λ i li. none-right (v (n + i) s) (h i (omega arith))))
-
   -- The certain measurement: Z on q is the combination of the stabilizers by the X powers on q of the destabilizers.
   pub certain : (q : ℕ) → q < n → ((i : ℕ) → i < n → Cong d (v (n + i) q) 0) → Same d n (zed n q) (λ s. sum n (λ i. v i q * v (n + i) s))
   certain q lq h s l =

@@ -1,8 +1,8 @@
--- `shift::finish` meets its contract. The written shifts are all 0 exactly if the verdict is clean.
+-- `shift::finish` meets its contract. The written stabilizer shifts are all 0 exactly if the verdict is clean.
 -- Assumes nothing.
 use mathlib.Core.Path.{_≡_, sym, ap, _∙_}
 use mathlib.Core.List.{List, _++_}
-use Prim.Native.Nat.{ℕ, _*_}
+use Prim.Native.Nat.{ℕ, _+_, _*_}
 use native.Mathlib.Omega.{arith}
 use denote.Ref.{now}
 use lib.Dec.{eqb}
@@ -49,13 +49,13 @@ same-length-2 c = search needs
 same-length-3 : tie.Need-same-length-3
 same-length-3 c = search needs
 
-written : (d n : ℕ) (F t rest : List ℕ) → all (isZero (tab (shiftAt d n F t) (2 * n) ++ rest)) (2 * n) ≡ all (noShift d n F t) (2 * n)
+written : (d n : ℕ) (F t rest : List ℕ) → all (isZero n (tab (shiftAt d n F t) (2 * n) ++ rest)) n ≡ all (noShift d n F t) n
 written d n F t rest =
     let f = shiftAt d n F t in
-    all-same _ _ (2 * n)
+    all-same _ _ n
     (λ i l.
     ap (λ (x : ℕ). eqb x 0)
-    (List·getD-append (tab f (2 * n)) rest 0 i (omega (arith, tab-length f (2 * n))) ∙ tab-get f (2 * n) i 0 l))
+    (List·getD-append (tab f (2 * n)) rest 0 (n + i) (omega (arith, tab-length f (2 * n))) ∙ tab-get f (2 * n) (n + i) 0 (omega arith)))
 
 returns : tie.Need-returns
 unfolding verdictOf

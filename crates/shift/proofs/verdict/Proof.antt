@@ -1,10 +1,11 @@
 -- `shift::verdict` meets its contract.
 -- Assumes nothing.
-use mathlib.Core.Path.{_≡_, refl}
-use mathlib.Core.Bool.{true}
-use Prim.Native.Nat.{_-_, _≤_}
+use mathlib.Core.Path.{_≡_, refl, sym, ap, _∙_}
+use mathlib.Core.Bool.{Bool, true, false, cond}
+use Prim.Native.Nat.{ℕ, _-_, _≤_}
 use native.Mathlib.Nat.{le-antisymm}
 use native.Mathlib.Omega.{arith}
+use denote.Ref.{now}
 use borrow.Author.Needs.{needs}
 use borrow.Author.Tests.{eq-eqb, ne-eqb}
 use Rattle.search.specs.Search.{all}
@@ -14,23 +15,27 @@ use Rattle.shift.proofs.verdict.Statement.{statement}
 use Rattle.shift.proofs.verdict.Tie as tie
 
 abbrev Inv-loop : tie.InvT-loop
-Inv-loop shifts n rows i₀ i = (i ≤ rows) × (all (isZero shifts) i ≡ true)
+Inv-loop shifts n i₀ i = (i ≤ n) × (all (isZero n shifts) i ≡ true)
 
 abbrev μ-loop : tie.MeasureT-loop
-μ-loop shifts n rows i₀ i = rows - i
-
-mul-rows : tie.Need-mul-rows Inv-loop μ-loop
-mul-rows c = search needs
+μ-loop shifts n i₀ i = n - i
 
 loop-holds : tie.Need-loop-holds Inv-loop μ-loop
 unfolding all
 loop-holds c = (omega arith, refl)
 
+add-if1 : tie.Need-add-if1 Inv-loop μ-loop
+add-if1 c = search needs
+
 shared-slice-read-if1 : tie.Need-shared-slice-read-if1 Inv-loop μ-loop
 shared-slice-read-if1 c = search needs
 
 returns : tie.Need-returns Inv-loop μ-loop
-returns c = rw (all-fails _ _ _ (c .before .before .loop-test .taken) (ne-eqb _ _ (c .if1 .taken)))
+returns c =
+    let here = c .before .before in
+    let a = here .before .before .args in
+    let some : isZero (a .n) (now (a .shifts)) (here .before .loop .i) ≡ false = ne-eqb _ _ (c .if1 .taken) in
+    rw (all-fails (isZero (a .n) (now (a .shifts))) _ _ (here .loop-test .taken) some)
 
 add-i : tie.Need-add-i Inv-loop μ-loop
 add-i c = search needs
@@ -42,7 +47,9 @@ loop-again : tie.Need-loop-again Inv-loop μ-loop
 loop-again c = (omega arith, all-more _ _ (c .before .before .before .loop .inv .1) (eq-eqb _ _ (c .if1 .left)))
 
 returns-2 : tie.Need-returns-2 Inv-loop μ-loop
-returns-2 c = rw (le-antisymm (c .loop-test .left) (c .before .loop .inv .0), c .before .loop .inv .1)
+returns-2 c =
+    sym
+    (ap (λ (b : Bool). cond {A = ℕ} b 0 1) (ap (all _) (le-antisymm (c .loop-test .left) (c .before .loop .inv .0)) ∙ c .before .loop .inv .1))
 
 pub verdict-spec : {M : Type 1} → statement M
 verdict-spec =
@@ -50,8 +57,8 @@ verdict-spec =
     (tie.spec
     Inv-loop
     μ-loop
-    mul-rows
     loop-holds
+    add-if1
     shared-slice-read-if1
     returns
     add-i

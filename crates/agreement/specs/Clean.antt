@@ -1,0 +1,26 @@
+-- What the verdict says of a book. The statement is proved in proofs/.
+use mathlib.Core.Path.{_≡_}
+use mathlib.Core.Logic.{_↔_}
+use mathlib.Core.List.{List}
+use Prim.Native.Nat.{ℕ}
+use Rattle.measurement.specs.Stabilizers.{SameSet}
+use Rattle.body.specs.Body.{accepted}
+use Rattle.book.specs.Book.{readBook}
+use Rattle.book.specs.Decoded.{measurementsIn}
+use Rattle.written.specs.Errorless.{errorless}
+use Rattle.direct.specs.DirectBook.{Left, directBook}
+use Rattle.framed.specs.FrameBook.{Buffers, FrameLeft, frameBook}
+use Rattle.agreement.specs.Lent.{Lent}
+
+-- Both runs end without a refusal, and the verdict is clean exactly if they end with the same stabilizer set.
+pub record Compared (d n : ℕ) (clean : Left) (carried : FrameLeft) : Type 0 where
+  pub clean-ends : clean .number ≡ 0
+  pub carried-ends : carried .number ≡ 0
+  pub exactly : (carried .verdict ≡ 0) ↔ SameSet d n (carried .left .tableau) (clean .tableau)
+
+-- For every accepted book, every start tableau valid for its d and n, and buffers long enough: the frame run, and a direct run of
+-- the same book, choices and start tableau with its errors taken out, each on its own copy of that tableau.
+abbrev pub CleanExactly : Type 0
+CleanExactly = (s : List ℕ) (d n operations errors choices : ℕ) → readBook s ≡ accepted d n operations errors choices
+    → (t results : List ℕ) (lent : Buffers) → Lent d n (measurementsIn s d n) t results lent
+    → Compared d n (directBook (errorless d n s) t results) (frameBook s lent)

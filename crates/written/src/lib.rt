@@ -1,0 +1,1 @@
+// The book that d, n and three bodies make; no code.
