@@ -3,5 +3,6 @@ pub mod Left
 pub mod Second
 pub mod Demand3
 pub mod Clean
+pub mod WithoutErrors
 pub mod Refusals
 pub mod LeavesValid

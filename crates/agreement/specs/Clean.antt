@@ -1,4 +1,4 @@
--- What the verdict says of a book. The statement is proved in proofs/.
+-- What the verdict says of a book. The statements are proved in proofs/.
 use mathlib.Core.Path.{_≡_}
 use mathlib.Core.Logic.{_↔_}
 use mathlib.Core.List.{List}
@@ -11,6 +11,7 @@ use Rattle.written.specs.Errorless.{errorless}
 use Rattle.direct.specs.DirectBook.{Left, directBook}
 use Rattle.framed.specs.FrameBook.{Buffers, FrameLeft, frameBook}
 use Rattle.agreement.specs.Lent.{Lent}
+use Rattle.agreement.specs.Agreement.{Alike}
 
 -- Both runs end without a refusal, and the verdict is clean exactly if they end with the same stabilizer set.
 pub record Compared (d n : ℕ) (clean : Left) (carried : FrameLeft) : Type 0 where
@@ -24,3 +25,9 @@ abbrev pub CleanExactly : Type 0
 CleanExactly = (s : List ℕ) (d n operations errors choices : ℕ) → readBook s ≡ accepted d n operations errors choices
     → (t results : List ℕ) (lent : Buffers) → Lent d n (measurementsIn s d n) t results lent
     → Compared d n (directBook (errorless d n s) t results) (frameBook s lent)
+
+-- Without errors both runs are alike and the verdict is clean: so the run without errors may be of either kind.
+abbrev pub WithoutErrors : Type 0
+WithoutErrors = (s : List ℕ) (d n operations choices : ℕ) → readBook s ≡ accepted d n operations 0 choices
+    → (t results : List ℕ) (lent : Buffers) → Lent d n (measurementsIn s d n) t results lent
+    → Alike n (measurementsIn s d n) (directBook s t results) (frameBook s lent) × (frameBook s lent .verdict ≡ 0)

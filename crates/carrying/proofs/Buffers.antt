@@ -2,10 +2,10 @@
 -- Assumes nothing.
 use mathlib.Core.Path.{_≡_, refl, sym, _∙_}
 use mathlib.Core.List.{List}
-use Prim.Native.Nat.{ℕ, zero, suc, _+_, _*_, _≤_, _<_}
+use Prim.Native.Nat.{ℕ, zero, suc, _+_, _≤_, _<_}
 use native.Mathlib.Nat.{le-refl}
 use native.Mathlib.Omega.{arith}
-use lib.ListN.{length, getD, getD-replicate}
+use lib.ListN.{length}
 use Rattle.operation.specs.declared.Operation.{Operation}
 use Rattle.operation.specs.declared.WeylError.{WeylError}
 use Rattle.circuit.specs.Circuit.{opAt, Kind, gate, measures, kind, tallyKind, measured}
@@ -18,7 +18,7 @@ use Rattle.run.specs.Run.{onward}
 use Rattle.run.specs.Direct.{State, directLook, directKind, directStrike, directStep, directRun}
 use Rattle.run.specs.Frame.{Ended, noFrame, frameRun}
 use Rattle.run.specs.Raised.{raised}
-use Rattle.run.proofs.Frames.{no-frame}
+use Rattle.run.proofs.Frames.{no-powers, no-frame}
 use Rattle.run.proofs.Results.{measured-before}
 use Rattle.carrying.specs.Carrying.{Agree, Carried}
 use Rattle.carrying.proofs.Rows.{shifted-none}
@@ -81,13 +81,10 @@ agree-twin {n} a s =
       results = λ i l. told-bytes (a .results) i l ∙ s .results i l;
     }
 
-no-powers : (n s : ℕ) → s < 2 * n → getD (noFrame n) s 0 ≡ 0
-no-powers n s l = getD-replicate (2 * n) s 0 0 l
-
 pub carried : Carried
 unfolding frameRun
 carried d n dim ops errors choices ac t t' results results' shifts frame ok room' same r r' =
-    let none = shifted-none d n (noFrame n) t (valid-tableau d n t ok) (no-powers n) in
+    let none = shifted-none d n (noFrame n) t (valid-tableau d n t ok) (λ s l. no-powers n s) in
     let empty = no-frame d n (omega (arith, dim .low)) in
     agree-twin
     (twin-run d n (omega (arith, dim .low)) ops errors (raised d n ops errors (noFrame n) choices)

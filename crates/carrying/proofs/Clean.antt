@@ -106,7 +106,7 @@ module _ (room : Type 0) (d n : ℕ) (ops : List Operation) (errors : List WeylE
     unfolding directRun frameRunFrom framedAll framedLeave directStrike framedStrike strike struckFrame
     rows-shifted shiftBuffer frame = rw (plus-all .rows, plus-all .frame)
 
-    verdict-shifted : (shiftBuffer frame : List ℕ)
+    pub verdict-shifted : (shiftBuffer frame : List ℕ)
         → frameRunFrom d n ops errors choices F st shiftBuffer frame .verdict
         ≡ verdictOf d n (finalFrame d n ops errors F) (directRun d n ops [] choices st .rows)
     unfolding directRun frameRunFrom framedAll framedLeave directStrike framedStrike strike struckFrame

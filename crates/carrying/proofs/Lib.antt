@@ -10,3 +10,4 @@ pub mod Window
 pub mod Buffers
 pub mod Verdict
 pub mod Clean
+pub mod NoErrors

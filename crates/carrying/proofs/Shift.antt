@@ -39,7 +39,7 @@ module _ (e n : ℕ) (F : List ℕ) where
       (cong-trans (cong-sym (cong-mod (suc e) _)) (cong-add (a .phase) (pairing-means (means-self (suc e) n F) (means a))))
 
 -- A frame of no powers pairs to 0.
-pairing-none : (d n : ℕ) (F v : List ℕ) → 0 < d → ((s : ℕ) → s < 2 * n → getD F s 0 ≡ 0) → pairing d n F v ≡ 0
+pub pairing-none : (d n : ℕ) (F v : List ℕ) → 0 < d → ((s : ℕ) → s < 2 * n → getD F s 0 ≡ 0) → pairing d n F v ≡ 0
 pairing-none zero n F v low h = absurd (omega arith)
 pairing-none (suc e) n F v low h =
     small-cong

@@ -1,13 +1,13 @@
 -- Frames stay 2n powers below d, and rows with shifted phases stay rows.
 -- Assumes nothing.
-use mathlib.Core.Path.{_≡_, _∙_}
+use mathlib.Core.Path.{_≡_, refl, _∙_}
 use mathlib.Core.Bool.{Bool, true, false, cond}
 use mathlib.Core.List.{List}
 use Prim.Native.Nat.{ℕ, zero, suc, _+_, _*_, _<_}
 use native.Mathlib.Nat.{mod-lt}
 use native.Mathlib.Omega.{arith}
 use lib.Dec.{eqb}
-use lib.ListN.{length, length-set, length-replicate, getD-replicate}
+use lib.ListN.{length, getD, replicate, length-set, length-replicate}
 use Rattle.row.specs.Row.{Powers, Row}
 use Rattle.row.proofs.Laws.{powers-of}
 use Rattle.tableau.specs.Tableau.{every}
@@ -28,11 +28,20 @@ pub record Frame (d n : ℕ) (F : List ℕ) : Type 0 where
   pub powers : Powers d n F
   pub len : length F ≡ 2 * n
 
+-- the first frame has no powers; bytes past a list's end count as 0
+zeros : (m s : ℕ) → getD (replicate {A = ℕ} m 0) s 0 ≡ 0
+zeros zero s = refl
+zeros (suc m) zero = refl
+zeros (suc m) (suc s) = zeros m s
+
+pub no-powers : (n s : ℕ) → getD (noFrame n) s 0 ≡ 0
+no-powers n = zeros (2 * n)
+
 module _ (d n : ℕ) (low : 0 < d) where
   pub no-frame : Frame d n (noFrame n)
   no-frame =
       record {
-        powers = record { room = omega (arith, none); below = λ s l. omega (arith, getD-replicate {A = ℕ} (2 * n) s 0 0 l) };
+        powers = record { room = omega (arith, none); below = λ s l. omega (arith, no-powers n s) };
         len = none;
       }
     where
