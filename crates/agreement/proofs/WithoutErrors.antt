@@ -1,28 +1,36 @@
--- Without errors both runs of a book are alike: the frame has no powers, and demand 3 then speaks of the book itself.
+-- Without errors both runs of a book are alike: no choice is raised, so the second book of demand 3 is the book itself.
 -- Assumes nothing.
-use mathlib.Core.Path.{_≡_, refl}
+use mathlib.Core.Path.{_≡_, refl, sym, _∙_}
 use mathlib.Core.List.{List, [], _∷_}
-use Prim.Native.Nat.{_<_}
+use Prim.Native.Nat.{_+_}
 use native.Mathlib.Omega.{arith}
 use lib.ListN.{length}
+use lib.Seq.{take-add, take-all}
 use Rattle.modular.proofs.Listed.{dimension}
+use Rattle.body.proofs.Sound.{no-refusal}
+use Rattle.book.specs.Book.{offsetOf, lengthOf}
 use Rattle.book.specs.Decoded.{opsIn, errorsIn, choicesIn}
+use Rattle.book.proofs.Contents.{all-passed, laid, by-kind}
 use Rattle.book.proofs.Meaning.{accepted-means}
 use Rattle.carrying.proofs.NoErrors.{raised-none, verdict-none}
+use Rattle.agreement.specs.Agreement.{raisedBook}
 use Rattle.agreement.specs.Clean.{WithoutErrors}
-use Rattle.agreement.proofs.Left.{direct-left, frame-left}
-use Rattle.agreement.proofs.Demand3.{alike, agree}
+use Rattle.agreement.proofs.Left.{frame-left}
+use Rattle.agreement.proofs.Demand3.{demand3}
 
 empty : {A : Type 0} (v : List A) → length v ≡ 0 → v ≡ []
 empty [] e = refl
 empty (x ∷ v) e = absurd (omega arith)
 
 pub without-errors : WithoutErrors
+unfolding raisedBook
 without-errors s d n operations choices e t results lent given =
-    let m = accepted-means s d n operations 0 choices e in
+    let m = accepted-means s d n operations _ choices e in
     let dim = dimension d (m .dimension-listed) in
-    let low : 0 < d = omega (arith, dim .low) in
     let none = empty (errorsIn s) (m .error-count) in
-    let same = raised-none d n low (opsIn s d n) (choicesIn s) (m .lists .below) in
-    rw (direct-left dim given s e refl, frame-left dim given s e refl, none)
-    (alike (rw (none, same) at (agree s e dim given)), verdict-none d n low (opsIn s d n) (choicesIn s) _ _ _)
+    let lies = laid s (all-passed s (no-refusal d n operations _ choices) e .contents) in
+    let whole = sym (take-add (offsetOf s 16) (lengthOf s 16) s) ∙ take-all (offsetOf s 16 + lengthOf s 16) s (omega (arith, lies .ends)) in
+    let itself : raisedBook d n s ≡ s = rw (none, raised-none d n dim (opsIn s d n) (m .lists .operations) (choicesIn s) (m .lists .below), by-kind s 3 e) whole in (
+      rw itself at (demand3 s d n operations _ choices e t results lent given),
+      rw (frame-left dim given s e refl, none) (verdict-none d n dim (opsIn s d n) (m .lists .operations) (choicesIn s) _ _ _),
+    )

@@ -38,14 +38,13 @@ pub head-room : (s : List ℕ) → headed s ≡ true → 22 ≤ length s
 unfolding headed
 head-room s e = leb-true _ _ (and-eq-true-iff (leb 22 (length s)) _ .0 e .0)
 
--- each body is of whole entries and begins where the last one ended, and the book ends with the third
+-- each body begins where the last one ended, and the book ends with the third; operations and choices are whole and not too many
 pub record Laid (s : List ℕ) : Type 0 where
   pub first : offsetOf s 4 ≡ 22
   pub second : offsetOf s 10 ≡ endOf s 4
   pub third : offsetOf s 16 ≡ endOf s 10
   pub ends : endOf s 16 ≡ length s
   pub first-whole : lengthFits (lengthOf s 4) 4 4096 ≡ true
-  pub second-whole : lengthFits (lengthOf s 10) 5 2048 ≡ true
   pub third-whole : lengthFits (lengthOf s 16) 1 4096 ≡ true
 
 fits : (s : List ℕ) (at kind start size most : ℕ) → entryFits s at kind start size most ≡ true
@@ -65,15 +64,13 @@ laid s e =
     let m2 = met (entryFits s 16 3 (endOf s 10) 1 4096) some-place (m1 .1) in
     let m3 = met (eqb (endOf s 16) (length s)) some-place (m2 .1) in
     let f0 = fits s 4 1 22 4 4096 (m0 .0) in
-    let f1 = fits s 10 2 (endOf s 4) 5 2048 (m1 .0) in
     let f2 = fits s 16 3 (endOf s 10) 1 4096 (m2 .0) in
     record {
       first = f0 .0;
-      second = f1 .0;
+      second = fits s 10 2 (endOf s 4) 5 2048 (m1 .0) .0;
       third = f2 .0;
       ends = eqb-true _ _ (m3 .0);
       first-whole = f0 .1;
-      second-whole = f1 .1;
       third-whole = f2 .1;
     }
 

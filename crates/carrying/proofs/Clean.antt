@@ -119,7 +119,6 @@ module _ (room : Type 0) (d n : ℕ) (ops : List Operation) (errors : List WeylE
         record {
           final = rw (plus-all .frame);
           rows = rows-shifted shiftBuffer frame;
-          verdict = verdict-shifted shiftBuffer frame;
           outcomes = plus-all .results r .outcome;
           marks = plus-all .results r .mark;
         }
