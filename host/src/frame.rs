@@ -3,12 +3,38 @@
 use crate::library::{self, Answer, FrameAnswer};
 use crate::{Refusal, told};
 
-/// Whether the errors left a trace in the rows.
+/// Whether the errors changed the final state.
+///
+/// It is clean exactly if a [`direct_run`](crate::direct_run) of the same book, choices and start
+/// tableau with the errors taken out ends with the same stabilizer set, which means in the same
+/// state. The n stabilizer shifts show it; destabilizer shifts are written but not judged.
+///
+/// The results are not judged either: an X error that is undone after a measurement of its qudit
+/// has changed that result, and is clean.
+///
+/// ```
+/// use cagvost::Verdict;
+/// use cagvost::book::Book;
+///
+/// // One qutrit at level 0, struck by X^p Z^s.
+/// let struck = |p, s| {
+///     let book = Book::new(3, 1).strike(0, p, s).to_bytes();
+///     let mut tableau = [0; cagvost::tableau_len(1)];
+///     let mut shifts = [0; cagvost::shifts_len(1)];
+///     let mut frame = [0; cagvost::frame_len(1)];
+///     cagvost::layer(&mut tableau, 3, 1)?;
+///     let run = cagvost::frame_run(&book, &mut tableau, &mut [], &mut shifts, &mut frame)?;
+///     Ok::<_, cagvost::Refusal>((run.verdict, shifts))
+/// };
+/// assert_eq!(struck(0, 1)?, (Verdict::Clean, [1, 0])); // Z shifts the destabilizer
+/// assert_eq!(struck(1, 0)?, (Verdict::Shifted, [0, 2])); // X shifts the stabilizer
+/// # Ok::<(), cagvost::Refusal>(())
+/// ```
 #[derive(Clone, Copy, Debug, PartialEq, Eq, Hash)]
 pub enum Verdict {
-    /// All 2n shifts are 0.
+    /// The final state is that of the run without errors: the n stabilizer shifts are 0.
     Clean,
-    /// Some row's phase is shifted.
+    /// The final state is another one: some stabilizer shift is not 0.
     Shifted,
 }
 
@@ -17,7 +43,7 @@ pub enum Verdict {
 pub struct FrameRun {
     /// The number of measurements.
     pub measurements: usize,
-    /// Whether the errors left a trace.
+    /// Whether the errors changed the final state.
     pub verdict: Verdict,
 }
 
@@ -37,6 +63,9 @@ pub const fn frame_len(n: usize) -> usize {
 /// results: the clean ones plus the frame's X power on the measured qudit. At the end each row's
 /// phase is shifted by the pairing of the frame with that row; `shifts` has these shifts in row
 /// order, and `frame` the final frame. What both buffers held before does not matter.
+///
+/// The verdict is clean exactly if the last n shifts, those of the stabilizers, are 0: then the
+/// errors have not changed the final state, though they may have changed results.
 ///
 /// ```
 /// use cagvost::Verdict;

@@ -49,9 +49,12 @@
 //! # Carrying the errors
 //!
 //! [`frame_run`] runs the same book without touching the rows by errors: it carries them as one
-//! frame, shifts the results and, at the end, the rows' phases by it, and tells whether any row was
-//! shifted. It ends with the bytes of a [`direct_run`] whose choices are raised by the frame's X
-//! power on the measured qudit.
+//! frame, and shifts the results and, at the end, the rows' phases by it. It ends with the bytes of
+//! a [`direct_run`] whose choices are raised by the frame's X power on the measured qudit.
+//!
+//! Its [`Verdict`] says whether the errors changed the final state: it is clean exactly if the run
+//! without errors ends with the same stabilizer set. It says nothing of the results, which an error
+//! may have changed on the way. Destabilizer shifts are written but not judged.
 //!
 //! # Buffers
 //!

@@ -4,8 +4,9 @@ mod common;
 
 use cagvost::book::{Book, DIMENSIONS, MAX_ERRORS, MAX_OPERATIONS, Operation};
 use common::plain::{self, Row};
-use common::{Rng, Run, Shape, UNWRITTEN, run_both};
-use common::{draw_book, draw_gate, draw_tableau, with_tail};
+use common::{Rng, Run, Shape, UNWRITTEN, Verdicts, run_both};
+use common::{draw_book, draw_gate, draw_tableau, with_tail, zero_tableau};
+use common::{with_raised_choices, without_errors};
 
 /// How often each kind of measurement was seen.
 #[derive(Default)]
@@ -276,45 +277,48 @@ fn the_lowest_pivot_by_hand() {
     ]);
 }
 
-// ---- Demand 3 on the plain reference, which frame.rs holds the library's frame run against
+// ---- Demand 3 and the verdict on the plain reference, which frame.rs holds the library against
 
-/// The rows after a direct run with raised choices, and after a frame run.
-fn carried_and_struck(rng: &mut Rng, d: u8, n: u8) {
-    let (operations, errors) = (rng.below(60), rng.below(20));
+/// A frame run against a direct run with raised choices, and its verdict against the stabilizer
+/// sets that it and the run without errors leave.
+fn carried_and_struck(rng: &mut Rng, d: u8, n: u8, seen: &mut Verdicts) {
     let shape = Shape {
         d,
         n,
-        operations,
-        errors,
+        operations: rng.below(60),
+        errors: rng.below(20),
         measure_one_in: 3,
     };
-    let mut book = draw_book(rng, shape);
-    let first = book.to_bytes();
-    let raised = plain::raised_choices(&plain::read(&first).expect("an accepted book"));
-    book.choices_mut().copy_from_slice(&raised);
+    let book = draw_book(rng, shape);
     let tableau = draw_tableau(rng, d, n);
     let room = vec![UNWRITTEN; 2 * book.measurements()];
-    let struck = run_both(&book.to_bytes(), &tableau, &room);
-    let (mut carried, mut results) = (tableau, room);
+    let run = |book: &Book| run_both(&book.to_bytes(), &tableau, &room);
+    let struck = run(&with_raised_choices(&book));
+    let clean = run(&without_errors(&book));
+    let (mut carried, mut results) = (tableau.clone(), room.clone());
     let mut shifts = vec![UNWRITTEN; 2 * usize::from(n)];
     let mut frame = shifts.clone();
+    let first = book.to_bytes();
     let told = plain::frame_run(&first, &mut carried, &mut results, &mut shifts, &mut frame);
     assert_eq!((told.0, told.1), struck.told);
     assert_eq!(results, struck.results);
     assert!(carried == struck.tableau);
-    // On a valid tableau the verdict is clean exactly if the frame is 0.
-    assert_eq!(told.2 == 0, frame.iter().all(|&x| x == 0));
+    let same = plain::same_set(d.into(), n.into(), &carried, &clean.tableau);
+    assert_eq!(told.2, usize::from(!same), "verdict of {first:02x?}");
+    seen.count(told.2 == 0, &shifts);
 }
 
 #[test]
 fn errors_carried_by_the_reference_are_errors_struck() {
     let mut rng = Rng(3);
+    let mut seen = Verdicts::default();
     for d in DIMENSIONS {
-        for _ in 0..100 {
+        for _ in 0..300 {
             let n = 1 + rng.byte_below(6);
-            carried_and_struck(&mut rng, d, n);
+            carried_and_struck(&mut rng, d, n, &mut seen);
         }
     }
+    seen.are_enough(50);
 }
 
 /// A product of powers does not depend on how it is taken apart: the row laws the reference rests
@@ -335,6 +339,70 @@ fn powers_of_the_reference_are_repeated_products() {
                 assert_eq!(plain::power(d, &v, h), repeated);
                 repeated = plain::product(d, &repeated, &v);
             }
+        }
+    }
+}
+
+// ---- Stabilizer sets of the reference, which judge the verdict
+
+/// Membership is that in the list of all d^n products, for every row there is.
+#[test]
+fn members_of_the_reference_are_all_products() {
+    let mut rng = Rng(13);
+    for (d, n) in [(3, 1), (5, 1), (31, 1), (3, 2), (5, 2)] {
+        let (modulus, count) = (i64::from(d), usize::from(n));
+        let rows = plain::rows_of(count, &draw_tableau(&mut rng, d, n));
+        let mut listed = vec![plain::identity(count)];
+        for row in &rows[count..] {
+            let powers = (0..modulus).map(|h| plain::power(modulus, row, h));
+            listed = powers
+                .flat_map(|w| listed.iter().map(move |v| plain::product(modulus, v, &w)))
+                .collect();
+        }
+        for code in 0..modulus.pow(2 * u32::from(n) + 1) {
+            let digit = |i: usize| code / modulus.pow(i as u32) % modulus;
+            let v = Row {
+                a: (0..count).map(digit).collect(),
+                b: (count..2 * count).map(digit).collect(),
+                r: digit(2 * count),
+            };
+            let member = plain::stabilizes(modulus, count, &rows, &v);
+            assert_eq!(member, listed.contains(&v), "{v:?} in {rows:?}");
+        }
+    }
+}
+
+/// Gates that send levels to levels keep the set of the zero tableau and change its rows; after the
+/// same gates on both, the sets are still the same. With another phase of a stabilizer they are
+/// not, with another phase of a destabilizer they are.
+fn sets_by_other_rows(rng: &mut Rng, d: u8, n: u8) {
+    let count = usize::from(n);
+    let (mut first, mut then) = (Book::new(d, n), Book::new(d, n));
+    let mut levels = vec![0; count];
+    for _ in 0..8 * count {
+        first.operation(draw_level_gate(rng, d, &mut levels));
+        then.operation(draw_gate(rng, d, n));
+    }
+    let after = |book: &Book, tableau: &[u8]| run_both(&book.to_bytes(), tableau, &[]).tableau;
+    let zero = zero_tableau(n);
+    let (t, mut u) = (after(&then, &zero), after(&then, &after(&first, &zero)));
+    let same = |u: &[u8]| plain::same_set(d.into(), count, &t, u);
+    assert!(t != u && same(&u), "d {d} n {n}");
+    for i in 0..2 * count {
+        let phase = i * (2 * count + 1) + 2 * count;
+        let before = u[phase];
+        u[phase] = (before + 1 + rng.byte_below(d - 1)) % d;
+        assert_eq!(same(&u), i < count, "d {d} n {n} row {i}");
+        u[phase] = before;
+    }
+}
+
+#[test]
+fn sets_of_the_reference_are_the_same_by_other_rows() {
+    let mut rng = Rng(14);
+    for d in DIMENSIONS {
+        for n in [1, 2, 3, 5, 12] {
+            sets_by_other_rows(&mut rng, d, n);
         }
     }
 }

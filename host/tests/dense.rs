@@ -1,12 +1,14 @@
-//! Both runs against a state vector: rows fix the state, marks and outcomes are its own, and a
-//! frame leads from the state without errors to the struck one.
+//! Both runs against a state vector: rows fix the state, marks and outcomes are its own, a frame
+//! leads from the state without errors to the struck one, and the verdict says whether these are
+//! the same.
 
 mod common;
 
 use cagvost::Verdict;
-use cagvost::book::{Book, DIMENSIONS, Operation};
+use cagvost::book::{Book, DIMENSIONS, Operation, WeylError};
 use common::dense::State;
-use common::{Rng, Shape, UNWRITTEN, draw_book, paper_book, zero_tableau};
+use common::{Rng, Shape, UNWRITTEN, Verdicts, paper_book};
+use common::{draw_book, draw_error, without_errors, zero_tableau};
 
 /// Rounding in a run of some dozens of gates stays far below, 1/d and a root's step far above.
 const CLOSE: f64 = 1e-9;
@@ -15,12 +17,13 @@ const CLOSE: f64 = 1e-9;
 const LEVELS: usize = 1000;
 
 /// How many measurements were seen free, certain with an outcome other than 0, and reported by a
-/// frame run with another result than without errors.
+/// frame run with another result than without errors; and the verdicts of frame runs.
 #[derive(Default)]
 struct Seen {
     free: usize,
     certain: usize,
     moved: usize,
+    verdicts: Verdicts,
 }
 
 /// What a direct run left, and the state vector after the same book.
@@ -88,9 +91,25 @@ fn follow_frame(book: &Book, seen: &mut Seen) -> Carried {
         (framed.overlap(&state) - 1.0).abs() < CLOSE,
         "the frame of {book:?} leads to another state"
     );
+    check_verdict(carried.verdict, clean.state.overlap(&state), book);
     let pairs = carried.results.iter().zip(&clean.results);
     seen.moved += pairs.filter(|(reported, clean)| reported != clean).count();
+    let is_clean = carried.verdict == Verdict::Clean;
+    seen.verdicts.count(is_clean, &carried.shifts);
     carried
+}
+
+/// Clean exactly if the struck state is the one without errors. States whose stabilizers differ in
+/// phases alone are the same or have the overlap 0.
+fn check_verdict(verdict: Verdict, overlap: f64, book: &Book) {
+    let expected = match verdict {
+        Verdict::Clean => 1.0,
+        Verdict::Shifted => 0.0,
+    };
+    assert!(
+        (overlap - expected).abs() < CLOSE,
+        "{verdict:?}, but the overlap is {overlap}: {book:?}"
+    );
 }
 
 /// Destabilizers fix no state, but a row and then the frame must do the same as the frame and then
@@ -118,16 +137,6 @@ fn after(state: &State, row: &[u8]) -> State {
     moved
 }
 
-/// The same circuit and choices, struck by nothing.
-fn without_errors(book: &Book) -> Book {
-    let mut clean = Book::new(book.dimension(), book.qudits());
-    book.operations()
-        .iter()
-        .for_each(|&o| _ = clean.operation(o));
-    book.choices().iter().for_each(|&c| _ = clean.choice(c));
-    clean
-}
-
 /// The tableau is valid, and its stabilizers fix the state.
 fn check_rows(tableau: &[u8], state: &State, book: &Book) {
     let (d, n) = (usize::from(book.dimension()), usize::from(book.qudits()));
@@ -141,18 +150,18 @@ fn check_rows(tableau: &[u8], state: &State, book: &Book) {
 }
 
 /// Each row is that of the run without errors, its phase raised by its shift; the verdict says
-/// whether there is a shift.
+/// whether a stabilizer is shifted.
 fn check_shifts(carried: &Carried, clean: &[u8], book: &Book) {
-    let (d, phase) = (book.dimension(), 2 * usize::from(book.qudits()));
+    let (d, n) = (book.dimension(), usize::from(book.qudits()));
     let below_d = |bytes: &[u8]| bytes.iter().all(|&x| x < d);
     assert!(below_d(&carried.shifts), "shifts of {book:?}");
     assert!(below_d(&carried.frame), "frame of {book:?}");
     let mut rows = clean.to_vec();
-    for (row, shift) in rows.chunks_mut(phase + 1).zip(&carried.shifts) {
-        row[phase] = (row[phase] + shift) % d;
+    for (row, shift) in rows.chunks_mut(2 * n + 1).zip(&carried.shifts) {
+        row[2 * n] = (row[2 * n] + shift) % d;
     }
     assert_eq!(carried.tableau, rows, "{book:?}");
-    let shifted = carried.shifts.iter().any(|&shift| shift != 0);
+    let shifted = carried.shifts[n..].iter().any(|&shift| shift != 0);
     assert_eq!(carried.verdict == Verdict::Shifted, shifted, "{book:?}");
 }
 
@@ -218,11 +227,13 @@ fn follow_drawn_circuits(d: u8) {
         free,
         certain,
         moved,
+        verdicts,
     } = seen;
     assert!(
         free > 100 && certain > 100 && moved > 100,
         "free {free} certain {certain} moved {moved}"
     );
+    verdicts.are_enough(5);
 }
 
 /// A test for each dimension, so that they run side by side.
@@ -249,9 +260,9 @@ drawn_circuits! {
 
 /// Each circuit of `length` entries, given the operations to put at each place; a measurement's
 /// choice is drawn.
-fn follow_every_circuit(d: u8, n: u8, alphabet: &[Operation], length: u32) {
+fn every_circuit(d: u8, n: u8, alphabet: &[Operation], length: u32) -> impl Iterator<Item = Book> {
     let mut rng = Rng(7);
-    for code in 0..alphabet.len().pow(length) {
+    (0..alphabet.len().pow(length)).map(move |code| {
         let mut book = Book::new(d, n);
         for i in 0..length {
             let operation = alphabet[code / alphabet.len().pow(i) % alphabet.len()];
@@ -260,8 +271,45 @@ fn follow_every_circuit(d: u8, n: u8, alphabet: &[Operation], length: u32) {
                 book.choice(rng.byte_below(d));
             }
         }
-        follow(&book, &mut Seen::default());
+        book
+    })
+}
+
+/// Each circuit with one drawn error by both runs; without it, it is followed beside the frame run.
+fn follow_every_circuit(d: u8, n: u8, alphabet: &[Operation], length: u32) {
+    let mut rng = Rng(8);
+    let mut seen = Seen::default();
+    for mut book in every_circuit(d, n, alphabet, length) {
+        let place = rng.below(book.operations().len() + 1);
+        book.error(draw_error(&mut rng, d, n, place));
+        follow(&book, &mut seen);
+        follow_frame(&book, &mut seen);
     }
+    seen.verdicts.are_enough(500);
+}
+
+/// Each circuit with every single error.
+fn follow_every_error(d: u8, n: u8, alphabet: &[Operation], length: u32) {
+    let mut seen = Seen::default();
+    for book in every_circuit(d, n, alphabet, length) {
+        for error in every_error(d, n, length as usize) {
+            let mut struck = book.clone();
+            struck.error(error);
+            follow_frame(&struck, &mut seen);
+        }
+    }
+    seen.verdicts.are_enough(2000);
+}
+
+/// Every power on every qudit at every place of so many operations.
+fn every_error(d: u8, n: u8, operations: usize) -> impl Iterator<Item = WeylError> {
+    let (d, n) = (usize::from(d), usize::from(n));
+    (0..(operations + 1) * n * d * d).map(move |code| WeylError {
+        place: (code / (n * d * d)) as u16,
+        qudit: (code / (d * d) % n) as u8,
+        p: (code / d % d) as u8,
+        s: (code % d) as u8,
+    })
 }
 
 /// The longest kind of misstep, a phase lost in a gate, needs `F P F P F M` to show.
@@ -273,8 +321,10 @@ fn every_short_circuit_on_one_qudit() {
         Operation::Multiplier { q: 0, u: 2 },
         Operation::Measure { q: 0 },
     ];
-    follow_every_circuit(3, 1, &alphabet, 6);
-    follow_every_circuit(5, 1, &alphabet, 6);
+    for d in [3, 5] {
+        follow_every_circuit(d, 1, &alphabet, 6);
+        follow_every_error(d, 1, &alphabet, 4);
+    }
 }
 
 #[test]
@@ -290,33 +340,29 @@ fn every_short_circuit_on_two_qutrits() {
         Operation::Measure { q: 1 },
     ];
     follow_every_circuit(3, 2, &alphabet, 4);
+    follow_every_error(3, 2, &alphabet, 3);
 }
 
 /// Every error on an entangled pair, before, between and after the measurements.
 #[test]
 fn every_error_at_every_place() {
-    for (d, place, q) in [3, 5]
+    let mut seen = Seen::default();
+    for (d, error) in [3, 5]
         .into_iter()
-        .flat_map(|d| (0..=6).flat_map(move |k| [0, 1].map(|q| (d, k, q))))
+        .flat_map(|d| every_error(d, 2, 6).map(move |error| (d, error)))
     {
-        for (p, s) in (0..d).flat_map(|p| (0..d).map(move |s| (p, s))) {
-            let mut book = Book::new(d, 2);
-            book.operation(Operation::Fourier { q: 0 })
-                .operation(Operation::PhaseGate { q: 0 })
-                .operation(Operation::Sum { c: 0, t: 1 })
-                .measure(1, 1)
-                .measure(0, 2)
-                .measure(1, 0);
-            book.error(cagvost::book::WeylError {
-                place,
-                qudit: q,
-                p,
-                s,
-            });
-            follow(&book, &mut Seen::default());
-            follow_frame(&book, &mut Seen::default());
-        }
+        let mut book = Book::new(d, 2);
+        book.operation(Operation::Fourier { q: 0 })
+            .operation(Operation::PhaseGate { q: 0 })
+            .operation(Operation::Sum { c: 0, t: 1 })
+            .measure(1, 1)
+            .measure(0, 2)
+            .measure(1, 0)
+            .error(error);
+        follow(&book, &mut seen);
+        follow_frame(&book, &mut seen);
     }
+    seen.verdicts.are_enough(50);
 }
 
 /// The specification's cases without a star that a state vector can hold, by both runs: the listing

@@ -1,12 +1,14 @@
 //! The frame run: the specification's cases, its refusals, every byte as the plain reference has
-//! it, and demand 3.
+//! it, demand 3, and the verdict by the stabilizer sets.
 
 mod common;
 
 use cagvost::book::{Book, DIMENSIONS, MAX_ERRORS, MAX_OPERATIONS, Operation, WeylError};
 use cagvost::{FrameRun, Verdict};
-use common::{PAPER_BOOK, Rng, Shape, UNWRITTEN, plain, run_both, test_of};
-use common::{draw_book, draw_tableau, with_tail, zero_tableau};
+use common::plain::{self, Row};
+use common::{PAPER_BOOK, Rng, Shape, UNWRITTEN, Verdicts, run_both, test_of};
+use common::{draw_book, draw_error, draw_tableau, with_tail, zero_tableau};
+use common::{with_raised_choices, without_errors};
 
 /// The four buffers of a frame run.
 #[derive(Clone, Debug, PartialEq, Eq)]
@@ -122,13 +124,49 @@ fn no_operations_and_no_errors_keep_the_tableau() {
     }
 }
 
-/// A Z error on level 0 moves a destabilizer alone, and is a shift all the same.
+/// A Z error on level 0 shifts a destabilizer alone: the state is the same.
 #[test]
-fn a_z_error_on_level_0_is_shifted() {
+fn a_z_error_on_level_0_is_clean() {
     let book = Book::new(3, 1).strike(0, 0, 1).to_bytes();
     let (told, left) = carry_both(&book, &Buffers::zero(1, 0));
-    assert_eq!(told, (0, 0, 1));
+    assert_eq!(told, (0, 0, 0));
     assert_eq!(left.shifts, [1, 0]);
+    assert_eq!(left.tableau, [1, 0, 1, 0, 1, 0]);
+}
+
+/// An X error on level 0 shifts a stabilizer: the state is level 1.
+#[test]
+fn an_x_error_on_level_0_is_shifted() {
+    let book = Book::new(3, 1).strike(0, 1, 0).to_bytes();
+    let (told, left) = carry_both(&book, &Buffers::zero(1, 0));
+    assert_eq!(told, (0, 0, 1));
+    assert_eq!(left.shifts, [0, 2]);
+    assert_eq!(left.tableau, [1, 0, 0, 0, 1, 2]);
+}
+
+/// From the zero tableau an X error on a qudit shifts its stabilizer alone, a Z error its
+/// destabilizer alone: each stabilizer is judged, and no destabilizer.
+#[test]
+fn each_row_alone() {
+    for (d, power) in DIMENSIONS
+        .into_iter()
+        .flat_map(|d| (1..d).map(move |power| (d, power)))
+    {
+        for q in 0..3 {
+            let carry = |p, s| {
+                let book = Book::new(d, 3).strike(q, p, s).to_bytes();
+                let (told, left) = carry_both(&book, &Buffers::zero(3, 0));
+                (told, left.shifts)
+            };
+            let alone = |row: u8, shift| {
+                let mut shifts = vec![0; 6];
+                shifts[usize::from(row)] = shift;
+                shifts
+            };
+            assert_eq!(carry(power, 0), ((0, 0, 1), alone(3 + q, d - power)));
+            assert_eq!(carry(0, power), ((0, 0, 0), alone(q, power)));
+        }
+    }
 }
 
 /// Errors that cancel leave no trace but in the results between them.
@@ -200,36 +238,47 @@ fn shape(rng: &mut Rng, d: u8, n: u8, most: usize) -> Shape {
     }
 }
 
-/// Carries the errors of a drawn book, and strikes them in the book with raised choices: demand 3.
-fn carry_and_strike(rng: &mut Rng, shape: Shape) {
-    let mut book = draw_book(rng, shape);
-    let first = book.to_bytes();
-    let tableau = draw_tableau(rng, shape.d, shape.n);
-    let before = Buffers::drawn(rng, shape.n, book.measurements(), tableau);
+/// Carries the errors of a book and strikes them in the book with raised choices: demand 3. Then
+/// leaves them out: the verdict is clean exactly if that run ends with the same stabilizer set.
+fn carry_and_strike(rng: &mut Rng, book: &Book, tableau: Vec<u8>, seen: &mut Verdicts) {
+    let (d, n, first) = (book.dimension(), book.qudits(), book.to_bytes());
+    let before = Buffers::drawn(rng, n, book.measurements(), tableau);
+    let run = |book: &Book| run_both(&book.to_bytes(), &before.tableau, &before.results);
     let (told, carried) = carry_both(&first, &before);
-    let raised = plain::raised_choices(&plain::read(&first).expect("an accepted book"));
-    book.choices_mut().copy_from_slice(&raised);
-    let struck = run_both(&book.to_bytes(), &before.tableau, &before.results);
+    let struck = run(&with_raised_choices(book));
     assert_eq!((told.0, told.1), struck.told);
     assert_eq!(told.0, 0);
     assert!(carried.results == struck.results, "results of {first:02x?}");
     assert!(carried.tableau == struck.tableau, "tableau of {first:02x?}");
+    let clean = run(&without_errors(book));
+    let same = plain::same_set(d.into(), n.into(), &carried.tableau, &clean.tableau);
+    assert_eq!(told.2, usize::from(!same), "verdict of {first:02x?}");
+    seen.count(told.2 == 0, &carried.shifts[..2 * usize::from(n)]);
 }
 
-fn carry_many(books: usize, least: u8, most: u8, operations: usize) {
+/// The same for a drawn book and tableau.
+fn carry_drawn(rng: &mut Rng, shape: Shape, seen: &mut Verdicts) {
+    let book = draw_book(rng, shape);
+    let tableau = draw_tableau(rng, shape.d, shape.n);
+    carry_and_strike(rng, &book, tableau, seen);
+}
+
+fn carry_many(books: usize, least: u8, most: u8, operations: usize) -> Verdicts {
     let mut rng = Rng(least.into());
+    let mut seen = Verdicts::default();
     for d in DIMENSIONS {
         for _ in 0..books {
             let n = least + rng.byte_below(most - least + 1);
             let shape = shape(&mut rng, d, n, operations);
-            carry_and_strike(&mut rng, shape);
+            carry_drawn(&mut rng, shape, &mut seen);
         }
     }
+    seen
 }
 
 #[test]
 fn one_to_four_qudits() {
-    carry_many(300, 1, 4, 80);
+    carry_many(300, 1, 4, 80).are_enough(50);
 }
 
 #[test]
@@ -253,7 +302,7 @@ fn full_books() {
             errors: MAX_ERRORS,
             measure_one_in: 10,
         };
-        carry_and_strike(&mut rng, shape);
+        carry_drawn(&mut rng, shape, &mut Verdicts::default());
     }
 }
 
@@ -261,6 +310,7 @@ fn full_books() {
 #[test]
 fn every_error_at_every_place() {
     let mut rng = Rng(6);
+    let mut seen = Verdicts::default();
     for (d, place, qudit) in (0..=7).flat_map(|k| [(3, k, 0), (3, k, 1), (5, k, 0), (5, k, 1)]) {
         for (p, s) in (0..d).flat_map(|p| (0..d).map(move |s| (p, s))) {
             let mut book = Book::new(d, 2);
@@ -272,8 +322,120 @@ fn every_error_at_every_place() {
                 .operation(Operation::Multiplier { q: 0, u: 2 })
                 .measure(0, 2);
             book.error(WeylError { place, qudit, p, s });
-            let before = Buffers::drawn(&mut rng, 2, 2, zero_tableau(2));
-            carry_both(&book.to_bytes(), &before);
+            carry_and_strike(&mut rng, &book, zero_tableau(2), &mut seen);
         }
     }
+    seen.are_enough(50);
+}
+
+// ---- The verdict, with errors that are often clean
+
+/// How the errors of a book are drawn.
+#[derive(Clone, Copy, Debug)]
+enum Kind {
+    /// One, anywhere.
+    One,
+    /// Powers of Z, before all operations.
+    EarlyZ,
+    /// One, and its inverse at the same place or the next.
+    Undone,
+    /// After all operations, what a drawn product of the last stabilizers has on each qudit.
+    Stabilizer,
+    /// The same, and one more.
+    StabilizerAndOne,
+}
+
+/// A drawn product of powers of the stabilizers, as errors at one place. Its phase is lost.
+fn draw_stabilizer(rng: &mut Rng, d: u8, rows: &[Row], place: usize) -> Vec<WeylError> {
+    let (modulus, n) = (i64::from(d), rows.len() / 2);
+    let mut whole = plain::identity(n);
+    for row in &rows[n..] {
+        let power = plain::power(modulus, row, rng.byte_below(d).into());
+        whole = plain::product(modulus, &whole, &power);
+    }
+    let powers = whole.a.iter().zip(&whole.b).zip(0..);
+    powers
+        .map(|((&p, &s), qudit)| WeylError {
+            place: place as u16,
+            qudit,
+            p: p as u8,
+            s: s as u8,
+        })
+        .collect()
+}
+
+/// Errors for a book without any; `last` are the rows that it ends with.
+fn draw_errors(rng: &mut Rng, kind: Kind, book: &Book, last: &[Row]) -> Vec<WeylError> {
+    let (d, n, end) = (book.dimension(), book.qudits(), book.operations().len());
+    let place = rng.below(end + 1);
+    match kind {
+        Kind::One => vec![draw_error(rng, d, n, place)],
+        Kind::EarlyZ => (0..n)
+            .map(|qudit| WeylError {
+                place: 0,
+                qudit,
+                p: 0,
+                s: rng.byte_below(d),
+            })
+            .collect(),
+        Kind::Undone => {
+            let error = draw_error(rng, d, n, place);
+            let inverse = WeylError {
+                place: (place + rng.below(2)).min(end) as u16,
+                qudit: error.qudit,
+                p: (d - error.p) % d,
+                s: (d - error.s) % d,
+            };
+            vec![error, inverse]
+        }
+        Kind::Stabilizer => draw_stabilizer(rng, d, last, end),
+        Kind::StabilizerAndOne => {
+            let mut errors = draw_stabilizer(rng, d, last, end);
+            errors.push(draw_error(rng, d, n, end));
+            errors
+        }
+    }
+}
+
+/// A drawn book with errors of the kind, from level 0 or from a drawn tableau.
+fn carry_kind(rng: &mut Rng, kind: Kind, d: u8, n: u8, seen: &mut Verdicts) {
+    let shape = Shape {
+        d,
+        n,
+        operations: rng.below(3 * usize::from(n)),
+        errors: 0,
+        measure_one_in: 2 + rng.below(8),
+    };
+    let mut book = draw_book(rng, shape);
+    let tableau = match kind {
+        Kind::One | Kind::EarlyZ => zero_tableau(n),
+        _ => draw_tableau(rng, d, n),
+    };
+    let mut last = tableau.clone();
+    let mut results = vec![UNWRITTEN; 2 * book.measurements()];
+    cagvost::direct_run(&book.to_bytes(), &mut last, &mut results).expect("an accepted book");
+    let errors = draw_errors(rng, kind, &book, &plain::rows_of(n.into(), &last));
+    errors.into_iter().for_each(|error| _ = book.error(error));
+    carry_and_strike(rng, &book, tableau, seen);
+}
+
+/// Every number of qudits with each kind of errors, in every dimension by turns.
+#[test]
+fn clean_exactly_if_the_set_is_that_without_errors() {
+    let kinds = [
+        Kind::One,
+        Kind::EarlyZ,
+        Kind::Undone,
+        Kind::Stabilizer,
+        Kind::StabilizerAndOne,
+    ];
+    let mut rng = Rng(2);
+    let mut seen = Verdicts::default();
+    for n in 1..=64 {
+        for (i, kind) in kinds.into_iter().enumerate() {
+            let d = DIMENSIONS[(usize::from(n) + i) % 10];
+            carry_kind(&mut rng, kind, d, n, &mut seen);
+        }
+    }
+    seen.are_enough(100);
 }

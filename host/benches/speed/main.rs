@@ -14,9 +14,10 @@ mod tuned;
 use books::{Mix, certain_tableau, dense_tableau};
 use cagvost::book::{Book, Operation};
 use calls::{Columns, DIRECT, FRAME, Job, TEST};
+use common::zero_tableau;
 use std::thread;
 use std::time::{Duration, Instant};
-use timing::{Unit, head, leaves, line, take, take_beyond};
+use timing::{Unit, compare, head, leaves, line, take, take_beyond};
 
 const DIMENSIONS: [u8; 3] = [3, 5, 31];
 const QUDITS: u8 = 64;
@@ -36,6 +37,7 @@ fn main() {
     }
     let begin = Instant::now();
     preface();
+    single_errors();
     full_books();
     growth();
     single_operations();
@@ -55,6 +57,18 @@ fn preface() {
     );
     if cfg!(target_feature = "avx2") {
         println!("Beware: (a) and (b) were compiled for AVX2, which Cagvost does not use.");
+    }
+}
+
+/// Every full book is shifted. X on one qudit at level 0 shifts a stabilizer alone, and Z a
+/// destabilizer alone, which is clean: there the columns must agree too. Nothing is timed.
+fn single_errors() {
+    for (q, d) in (0..QUDITS).flat_map(|q| DIMENSIONS.map(|d| (q, d))) {
+        for (p, s, verdict) in [(1, 0, 1), (0, 1, 0)] {
+            let book = Book::new(d, QUDITS).strike(q, p, s).clone();
+            let job = Job::new(&book, zero_tableau(QUDITS));
+            assert_eq!(compare(&job, &FRAME).0, (0, 0, verdict));
+        }
     }
 }
 

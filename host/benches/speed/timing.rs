@@ -71,7 +71,7 @@ fn rounds<const N: usize>(
 }
 
 /// What the columns agree in: the numbers and every byte. Each is called once.
-fn compare(job: &Job, columns: &Columns) -> (Told, Buffers) {
+pub fn compare(job: &Job, columns: &Columns) -> (Told, Buffers) {
     let [cagvost, tuned, plain] = columns.map(|call| leaves(job, call));
     assert!(cagvost.0 == plain.0 && tuned.0 == plain.0, "numbers");
     assert!(cagvost.1 == plain.1 && tuned.1 == plain.1, "bytes");

@@ -666,15 +666,15 @@ fn carry(frame: &mut [u8], n: usize, error: &[u8], d: u8) {
     frame[n + q] = add(d, frame[n + q], error[4]);
 }
 
-/// Shifts each row's phase by the pairing of the frame with that row. The verdict.
+/// Shifts each row's phase by the pairing of the frame with that row. The verdict, of the
+/// stabilizers' shifts.
 fn shift(rows: &mut [u8], n: usize, frame: &[u8], shifts: &mut [u8], m: &Modulo) -> usize {
-    let mut any = 0;
-    for (row, shift) in rows.chunks_exact_mut(2 * n + 1).zip(shifts) {
+    for (row, shift) in rows.chunks_exact_mut(2 * n + 1).zip(&mut *shifts) {
         let plus = m.reduce(dot(&frame[n..2 * n], &row[..n]));
         let minus = m.reduce(dot(&frame[..n], &row[n..2 * n]));
         *shift = m.rest(plus.wrapping_sub(minus));
         row[2 * n] = m.rest(row[2 * n].wrapping_add(*shift));
-        any |= *shift;
     }
+    let any = shifts[n..].iter().fold(0, |any, &shift| any | shift);
     usize::from(any != 0)
 }

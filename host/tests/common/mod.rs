@@ -5,7 +5,7 @@ pub mod dense;
 pub mod plain;
 
 use cagvost::Refusal;
-use cagvost::book::{Book, Operation};
+use cagvost::book::{Book, Operation, WeylError};
 
 /// A byte that no call writes: results, marks, shifts, powers and phases are below 31. Buffers are
 /// filled with it before a call, so that a byte left unwritten shows.
@@ -148,6 +148,36 @@ pub fn draw_book(rng: &mut Rng, shape: Shape) -> Book {
     book
 }
 
+/// An error that is not the identity.
+pub fn draw_error(rng: &mut Rng, d: u8, n: u8, place: usize) -> WeylError {
+    let powers = 1 + rng.below(usize::from(d).pow(2) - 1);
+    WeylError {
+        place: place as u16,
+        qudit: rng.byte_below(n),
+        p: (powers / usize::from(d)) as u8,
+        s: (powers % usize::from(d)) as u8,
+    }
+}
+
+/// The same operations and choices, struck by nothing.
+pub fn without_errors(book: &Book) -> Book {
+    let mut clean = Book::new(book.dimension(), book.qudits());
+    book.operations()
+        .iter()
+        .for_each(|&o| _ = clean.operation(o));
+    book.choices().iter().for_each(|&c| _ = clean.choice(c));
+    clean
+}
+
+/// The same book with each choice raised by the frame's X power on the measured qudit.
+pub fn with_raised_choices(book: &Book) -> Book {
+    let read = plain::read(&book.to_bytes()).expect("an accepted book");
+    let mut raised = book.clone();
+    let choices = plain::raised_choices(&read);
+    raised.choices_mut().copy_from_slice(&choices);
+    raised
+}
+
 /// A valid tableau: the zero tableau after drawn gates and errors, by the plain reference.
 pub fn draw_tableau(rng: &mut Rng, d: u8, n: u8) -> Vec<u8> {
     let (modulus, count) = (i64::from(d), usize::from(n));
@@ -183,6 +213,28 @@ pub fn told(result: Result<usize, Refusal>) -> plain::Told {
     match result {
         Ok(count) => (0, count),
         Err(refusal) => (refusal.number(), refusal.place()),
+    }
+}
+
+/// How often a frame run was seen clean, of these with a shift that is not 0, and shifted.
+#[derive(Debug, Default)]
+pub struct Verdicts {
+    pub clean: usize,
+    pub clean_with_shift: usize,
+    pub shifted: usize,
+}
+
+impl Verdicts {
+    pub fn count(&mut self, clean: bool, shifts: &[u8]) {
+        let shift = shifts.iter().any(|&shift| shift != 0);
+        self.clean += usize::from(clean);
+        self.clean_with_shift += usize::from(clean && shift);
+        self.shifted += usize::from(!clean);
+    }
+
+    pub fn are_enough(&self, of_each: usize) {
+        let least = self.clean_with_shift.min(self.shifted);
+        assert!(least > of_each, "{self:?}");
     }
 }
 

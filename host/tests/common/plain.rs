@@ -268,6 +268,27 @@ fn measure(d: i64, n: usize, rows: &mut [Row], q: usize, choice: i64) -> [u8; 2]
     }
 }
 
+// ---- Stabilizer sets
+
+/// Whether v is a member of the stabilizer set of a valid tableau: a product of powers of its
+/// stabilizers. The exponent of each can only be the pairing of v with its destabilizer.
+pub fn stabilizes(d: i64, n: usize, rows: &[Row], v: &Row) -> bool {
+    let mut whole = identity(n);
+    for i in 0..n {
+        let h = pairing(d, v, &rows[i]);
+        whole = product(d, &whole, &power(d, &rows[n + i], h));
+    }
+    whole == *v
+}
+
+/// Whether two valid tableaus have the same stabilizer set: each has the other's stabilizers.
+/// Nothing is known here of frames and shifts.
+pub fn same_set(d: i64, n: usize, t: &[u8], u: &[u8]) -> bool {
+    let (t, u) = (rows_of(n, t), rows_of(n, u));
+    let has = |rows: &[Row], others: &[Row]| others[n..].iter().all(|v| stabilizes(d, n, rows, v));
+    has(&t, &u) && has(&u, &t)
+}
+
 // ---- The book
 
 /// An accepted book.
@@ -510,14 +531,15 @@ fn carry_all(book: &Book, rows: &mut [Row], carried: &mut Row, results: &mut [u8
     done
 }
 
-/// Adds each row's shift to its phase. The verdict.
+/// Adds each row's shift to its phase. The verdict is that of the stabilizers, rows n to 2n − 1.
 fn shift_all(d: i64, carried: &Row, rows: &mut [Row], shifts: &mut [u8]) -> usize {
+    let n = carried.a.len();
     let mut verdict = 0;
-    for (row, shift) in rows.iter_mut().zip(shifts) {
+    for (i, (row, shift)) in rows.iter_mut().zip(shifts).enumerate() {
         let by = pairing(d, carried, row);
         row.r = (row.r + by) % d;
         *shift = by as u8;
-        if by != 0 {
+        if i >= n && by != 0 {
             verdict = 1;
         }
     }
