@@ -11,8 +11,8 @@ use Rattle.body.specs.Body.{accepted}
 use Rattle.book.specs.Book.{readBook}
 use Rattle.book.specs.Decoded.{Means, errorsOf, opsIn, errorsIn, choicesIn, measurementsIn}
 use Rattle.book.proofs.Meaning.{accepted-means}
-use Rattle.written.specs.Errorless.{errorless, Taken}
-use Rattle.written.proofs.Errorless.{errors-taken}
+use Rattle.written.specs.Errorless.{errorless, TakenOut}
+use Rattle.written.proofs.Errorless.{errors-taken-out}
 use Rattle.measurement.specs.Stabilizers.{SameSet}
 use Rattle.measurement.proofs.Sets.{same-set, same-back, same-through}
 use Rattle.run.specs.Direct.{State, directRun}
@@ -38,22 +38,22 @@ module _ (s : List ℕ) {d n operations errors choices : ℕ} (e : readBook s �
   dim : Dimension d
   dim = dimension d (means .dimension-listed)
 
-  taken : Taken d n operations choices s
-  taken = errors-taken s d n operations errors choices e
+  taken : TakenOut d n operations choices s
+  taken = errors-taken-out s d n operations errors choices e
 
   -- the run without errors, from either copy of the start tableau
   abbrev clean-from : State → State
   clean-from st = directRun d n (opsIn s d n) [] (choicesIn s) st
 
-  abbrev mine : State
-  mine = record { rows = lent .tableau; results = lent .results }
+  abbrev started : State
+  started = record { rows = lent .tableau; results = lent .results }
 
   abbrev copied : State
   copied = record { rows = t; results = results }
 
-  same : SameSet d n (clean-from mine .rows) (clean-from copied .rows)
+  same : SameSet d n (clean-from started .rows) (clean-from copied .rows)
   same =
-      let twin : Twin n (measurementsIn s d n) (measurementsIn s d n) (clean-from mine) (clean-from copied) =
+      let twin : Twin n (measurementsIn s d n) (measurementsIn s d n) (clean-from started) (clean-from copied) =
       twin-run d n (omega (arith, dim .low)) (opsIn s d n) [] (choicesIn s)
       (record { rows = window dim given; results = told-none Equal _ (given .frame-results) (given .direct-results) }) in
       same-set d n (λ i l. twin .rows .rows (n + i) (omega arith))
@@ -61,7 +61,7 @@ module _ (s : List ℕ) {d n operations errors choices : ℕ} (e : readBook s �
   compared : Compared d n (directBook (errorless d n s) t results) (frameBook s lent)
   unfolding frameRun
   compared =
-      let a = clean-lists d n dim (opsIn s d n) (errorsIn s) (choicesIn s) (noFrame n) (means .lists) mine (start dim given) (lent .shifts) (lent .frame) in
+      let a = clean-lists d n dim (opsIn s d n) (errorsIn s) (choicesIn s) (noFrame n) (means .lists) started (start dim given) (lent .shifts) (lent .frame) in
       rw (
         direct-left dim given (errorless d n s) (taken .accepts) (rw (taken .same-operations)),
         taken .same-operations,

@@ -1,1 +1,1 @@
-// Demand 3 for whole books; no code.
+// Demand 3 and the verdict for whole books; no code.

@@ -1,4 +1,4 @@
--- Demand 3 over decoded lists.
+-- Validity, demand 3 and the verdict over decoded lists.
 pub mod Shift
 pub mod Rows
 pub mod Looks

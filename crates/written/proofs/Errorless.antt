@@ -15,7 +15,7 @@ use Rattle.book.specs.Decoded.{Means}
 use Rattle.book.proofs.Contents.{Passed, all-passed, Laid, laid, part-length, by-kind}
 use Rattle.book.proofs.Meaning.{accepted-means}
 use Rattle.written.specs.Written.{bookOf, badLengths, readParts}
-use Rattle.written.specs.Errorless.{ErrorsTaken}
+use Rattle.written.specs.Errorless.{ErrorsTakenOut}
 use Rattle.written.proofs.Read.{reads-written, bodies-back}
 
 module _ (s : List ℕ) {d n operations errors choices : ℕ} (e : readBook s ≡ accepted d n operations errors choices) where
@@ -61,9 +61,9 @@ module _ (s : List ℕ) {d n operations errors choices : ℕ} (e : readBook s �
           choice-count,
         )
 
-pub errors-taken : ErrorsTaken
+pub errors-taken-out : ErrorsTakenOut
 unfolding badError firstNot
-errors-taken s d n operations errors choices e =
+errors-taken-out s d n operations errors choices e =
     let reads = with-errors s e [] refl in
     let b = bodies-back d n (bodyOf s 1) [] (bodyOf s 3) operations 0 choices reads in
     record { accepts = reads; same-operations = b .operations-back; no-errors = b .errors-back; same-choices = b .choices-back }

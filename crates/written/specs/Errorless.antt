@@ -11,12 +11,12 @@ abbrev pub errorless : ℕ → ℕ → List ℕ → List ℕ
 errorless d n s = bookOf d n (bodyOf s 1) [] (bodyOf s 3)
 
 -- It is accepted with 0 errors, and has the same operations and choices.
-pub record Taken (d n operations choices : ℕ) (s : List ℕ) : Type 0 where
+pub record TakenOut (d n operations choices : ℕ) (s : List ℕ) : Type 0 where
   pub accepts : readBook (errorless d n s) ≡ accepted d n operations 0 choices
   pub same-operations : bodyOf (errorless d n s) 1 ≡ bodyOf s 1
   pub no-errors : bodyOf (errorless d n s) 2 ≡ []
   pub same-choices : bodyOf (errorless d n s) 3 ≡ bodyOf s 3
 
-abbrev pub ErrorsTaken : Type 0
-ErrorsTaken = (s : List ℕ) (d n operations errors choices : ℕ) → readBook s ≡ accepted d n operations errors choices
-    → Taken d n operations choices s
+abbrev pub ErrorsTakenOut : Type 0
+ErrorsTakenOut = (s : List ℕ) (d n operations errors choices : ℕ) → readBook s ≡ accepted d n operations errors choices
+    → TakenOut d n operations choices s
