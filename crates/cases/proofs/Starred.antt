@@ -3,7 +3,7 @@
 use mathlib.Core.Path.{_≡_, refl}
 use mathlib.Core.List.{List, [], _∷_}
 use Prim.Native.Nat.{ℕ}
-use Rattle.modular.specs.Dimension.{inverse, inverseBelow}
+use Rattle.modular.specs.Dimension.{inverse, powerOf}
 use Rattle.row.specs.Row.{tab, rowOf, dot, product, power}
 use Rattle.operation.specs.declared.Operation.the-variants.{Fourier, PhaseGate, Cz, Multiplier, Measure}
 use Rattle.operation.specs.Gate.{gatePowers, gatePhase, gateRow}
@@ -36,7 +36,7 @@ cz = refl
 
 -- ★4 d = 5, multiplier 2: (1,1,0) gives (2,3,0).
 multiplier : gateRow 5 1 (Multiplier 0 2) (1 ∷ 1 ∷ 0 ∷ []) ≡ 2 ∷ 3 ∷ 0 ∷ []
-unfolding gateRow gatePowers gatePhase inverse inverseBelow
+unfolding gateRow gatePowers gatePhase inverse powerOf
 multiplier = refl
 
 -- ★5 (0,1,0) times (1,0,0) is (1,1,1); reversed (1,1,0).
@@ -75,5 +75,5 @@ certain = refl
 
 -- ★9 Fourier, then measure with choice 2: free 2, rows (1,0,0) and (0,1,1).
 free : directRun 3 1 (Fourier 0 ∷ Measure 0 ∷ []) [] (2 ∷ []) start ≡ record { rows = 1 ∷ 0 ∷ 0 ∷ 0 ∷ 1 ∷ 1 ∷ []; results = 2 ∷ 1 ∷ [] }
-unfolding directRun onward directStep directStrike directKind directLook strike measured noted look pivotOf firstNot collapse collapseRow zWith inverse inverseBelow zeroTableau eachRow part put product power rowOf tab dot gateRow gatePowers gatePhase
+unfolding directRun onward directStep directStrike directKind directLook strike measured noted look pivotOf firstNot collapse collapseRow zWith inverse powerOf zeroTableau eachRow part put product power rowOf tab dot gateRow gatePowers gatePhase
 free = refl

@@ -4,7 +4,7 @@ use mathlib.Core.Bool.{true}
 use Prim.Native.Nat.{ℕ, _*_, _%_, _<_, _≤_}
 use Rattle.modular.specs.Dimension.{listed, inverse}
 
--- Entry u, for u from 1 to d−1, times u leaves 1; every other entry is 0.
+-- x follows the rule of u's inverse: for u from 1 to d−1 it times u leaves 1; it is 0 for 0 and for every u from d up.
 pub record Right (d u x : ℕ) : Type 0 where
   pub unit : 0 < u → u < d → u * x % d ≡ 1
   pub zeroth : u ≡ 0 → x ≡ 0

@@ -3,7 +3,7 @@
 use mathlib.Core.Path.{_≡_, refl}
 use mathlib.Core.List.{List, [], _∷_}
 use Prim.Native.Nat.{ℕ}
-use Rattle.modular.specs.Dimension.{inverse, inverseBelow}
+use Rattle.modular.specs.Dimension.{inverse, powerOf}
 use Rattle.operation.specs.declared.Operation.the-variants.{Fourier, PhaseGate, Sum, Cz, Swap, Multiplier}
 use Rattle.operation.specs.declared.WeylError.{WeylError}
 use Rattle.operation.specs.Gate.{gatePowers, gatePhase, gateRow}
@@ -33,7 +33,7 @@ unfolding gateRow gatePowers gatePhase
 swap = refl
 
 multiplier : gateRow 5 2 (Multiplier 1 3) row ≡ 1 ∷ 1 ∷ 3 ∷ 3 ∷ 1 ∷ []
-unfolding gateRow gatePowers gatePhase inverse inverseBelow
+unfolding gateRow gatePowers gatePhase inverse powerOf
 multiplier = refl
 
 -- X^3 Z^2 on qudit 1

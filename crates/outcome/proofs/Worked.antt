@@ -3,7 +3,7 @@
 use mathlib.Core.Path.{_≡_, refl}
 use mathlib.Core.List.{List, [], _∷_}
 use Prim.Native.Nat.{ℕ}
-use Rattle.modular.specs.Dimension.{inverse, inverseBelow}
+use Rattle.modular.specs.Dimension.{inverse, powerOf}
 use Rattle.row.specs.Row.{tab, rowOf, dot, product, power}
 use Rattle.row.specs.Generators.{zWith}
 use Rattle.weyl.specs.Scalar.{scalar}
@@ -40,5 +40,5 @@ after : collapse 5 3 2 0 1 before
     ∷ 0 ∷ 0 ∷ 0 ∷ 0 ∷ 0 ∷ 1 ∷ 4
     ∷ 2 ∷ 3 ∷ 0 ∷ 0 ∷ 0 ∷ 0 ∷ 2
     ∷ 0 ∷ 0 ∷ 0 ∷ 4 ∷ 4 ∷ 1 ∷ 4 ∷ []
-unfolding collapse collapseRow zWith inverse inverseBelow eachRow part put product power rowOf tab dot
+unfolding collapse collapseRow zWith inverse powerOf eachRow part put product power rowOf tab dot
 after = refl

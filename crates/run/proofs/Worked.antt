@@ -3,7 +3,7 @@
 use mathlib.Core.Path.{_≡_, refl}
 use mathlib.Core.List.{List, [], _∷_}
 use Prim.Native.Nat.{ℕ}
-use Rattle.modular.specs.Dimension.{inverse, inverseBelow}
+use Rattle.modular.specs.Dimension.{inverse, powerOf}
 use Rattle.row.specs.Row.{tab, rowOf, dot, product, power, pairing}
 use Rattle.row.specs.Generators.{zWith}
 use Rattle.weyl.specs.Scalar.{scalar}
@@ -71,7 +71,7 @@ Level0 = Both 1 [] (record { place = 0; qudit = 0; p = 0; s = 1 } ∷ []) [] []
     (record { rows = 1 ∷ 0 ∷ 1 ∷ 0 ∷ 1 ∷ 0 ∷ []; results = []; shifts = 1 ∷ 0 ∷ []; frame = 0 ∷ 1 ∷ []; verdict = 0 })
 
 worked : Book × Ends × Free × Level0
-unfolding onward noted measured frameRun frameRunFrom framedStep framedKind framedLook framedStrike framedAll framedLeave verdictOf shiftRow strikeFrame errorFrame raised resultShifts shiftBy carried carryBy struckFrame directRun directStep directKind directLook directStrike strike errorRow look pivotOf firstNot combination weighted all collapse collapseRow eachRow part put product power pairing scalar zWith rowOf tab dot gateRow gatePowers gatePhase inverse inverseBelow
+unfolding onward noted measured frameRun frameRunFrom framedStep framedKind framedLook framedStrike framedAll framedLeave verdictOf shiftRow strikeFrame errorFrame raised resultShifts shiftBy carried carryBy struckFrame directRun directStep directKind directLook directStrike strike errorRow look pivotOf firstNot combination weighted all collapse collapseRow eachRow part put product power pairing scalar zWith rowOf tab dot gateRow gatePowers gatePhase inverse powerOf
 worked = (
   record { framed = refl; raises = refl; struck = refl },
   record { framed = refl; raises = refl; struck = refl },

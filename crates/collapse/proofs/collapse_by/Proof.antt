@@ -5,7 +5,7 @@ use Prim.Native.Nat.{ℕ, _-_, _*_}
 use native.Mathlib.Nat.{le-of-lt}
 use native.Mathlib.Omega.{arith}
 use borrow.Author.Needs.{needs}
-use Rattle.modular.proofs.Listed.{dimension, inverse-less}
+use Rattle.modular.proofs.Listed.{dimension}
 use Rattle.row.specs.Row.{tab}
 use Rattle.row.specs.Fill.{multipleAt}
 use Rattle.collapse.proofs.collapse_by.Statement.{statement}
@@ -21,7 +21,9 @@ reciprocal-requires : tie.Need-reciprocal-requires
 reciprocal-requires c κs = let e = dimension _ (c .before .before .before .before .before .before .pre .0) in (e .low, e .high)
 
 sub-multiples : tie.Need-sub-multiples
-sub-multiples c = rw (c .before .before .inverse .ensures) (le-of-lt (inverse-less _ _ (omega arith)))
+sub-multiples c =
+    let s = c .before .before .before .before .before .before .before .before in
+    rw (c .before .before .inverse .ensures) (le-of-lt (dimension _ (s .pre .0) .small _))
 
 multiples-requires : tie.Need-multiples-requires
 multiples-requires c κs =
@@ -48,7 +50,7 @@ collapse-all-requires c κs =
         number = p .3;
         below = p .4;
         inverts = v .ensures;
-        small = rw (v .ensures) (inverse-less _ _ (omega arith));
+        small = rw (v .ensures) (dimension _ (p .0) .small _);
         copied = p .6;
         multiples = c .before .before .before .before .before .powers .ensures;
         exponents = c .before .before .before .before .before .before .before .before .before .multiples .ensures ∙ ap (tab (multipleAt (s .args .d) (s .args .d - v .result))) (p .8);

@@ -3,7 +3,7 @@
 use native.Mathlib.Omega.{arith}
 use lib.ListN.{length-set}
 use borrow.Author.Needs.{needs}
-use Rattle.modular.proofs.Listed.{inverse-less}
+use Rattle.modular.proofs.Listed.{dimension}
 use Rattle.operation.specs.Gate.{gatePowers}
 use Rattle.frames.proofs.multiplier_powers.Statement.{statement}
 use Rattle.frames.proofs.multiplier_powers.Tie as tie
@@ -29,7 +29,7 @@ slice-write-v c = search needs
 mul-requires-2 : tie.Need-mul-requires-2
 mul-requires-2 c κs =
     let s = c .before .before .before .before .before in
-    let l = inverse-less (s .args .d) (s .args .u) (omega arith) in
+    let l = dimension (s .args .d) (s .pre .2) .small (s .args .u) in
     (s .pre .3 .below _ (omega arith), omega (arith, c .before .inverse .ensures), s .pre .4)
 
 add-v : tie.Need-add-v
