@@ -1,10 +1,10 @@
 //! Noisy Clifford circuits on qudits of odd prime dimension.
 //!
 //! This package is the host side of Cagvost, a simulator written and proved in Rattle. It keeps a
-//! full tableau with phases, for 1 to 64 qudits of dimension 3, 5, 7, 11, 13, 17, 19, 23, 29 or 31.
-//! Every function here takes whatever it is handed: it does its work, or it returns a [`Refusal`]
-//! and leaves every buffer as it was. No check is owed before a call, and after a run that does not
-//! refuse the tableau passes the test.
+//! full tableau with phases, for 1 to 64 qudits whose dimension is one of [`book::DIMENSIONS`], the
+//! odd primes up to 31. Every function here takes whatever it is handed: it does its work, or it
+//! returns a [`Refusal`] and leaves every buffer as it was. No check is owed before a call, and
+//! after a run that does not refuse the tableau passes the test.
 //!
 //! # Running a book
 //!

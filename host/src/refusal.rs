@@ -140,6 +140,16 @@ impl Error for Refusal {}
 #[cfg(test)]
 mod tests {
     use super::*;
+    use crate::book::DIMENSIONS;
+
+    /// A dimension that joins the list has to join the words.
+    #[test]
+    fn the_words_for_2_name_each_dimension() {
+        let words = Refusal::Dimension.meaning();
+        let numbers = words.split(|c: char| !c.is_ascii_digit());
+        let named = numbers.filter_map(|number| number.parse::<u8>().ok());
+        assert_eq!(Vec::from_iter(named), DIMENSIONS);
+    }
 
     #[test]
     fn each_listed_number_keeps_its_number_and_place() {

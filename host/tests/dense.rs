@@ -8,7 +8,7 @@ use cagvost::Verdict;
 use cagvost::book::{Book, DIMENSIONS, Operation, WeylError};
 use common::dense::State;
 use common::{Rng, Shape, UNWRITTEN, Verdicts, paper_book};
-use common::{draw_book, draw_error, without_errors, zero_tableau};
+use common::{draw_book, draw_error, every_factor, times, without_errors, zero_tableau};
 
 /// Rounding in a run of some dozens of gates stays far below, 1/d and a root's step far above.
 const CLOSE: f64 = 1e-9;
@@ -363,6 +363,89 @@ fn every_error_at_every_place() {
         follow_frame(&book, &mut seen);
     }
     seen.verdicts.are_enough(50);
+}
+
+/// Multipliers among gates and measurements on one qudit, and after one another.
+#[test]
+fn every_short_circuit_with_every_multiplier() {
+    for d in [3, 5, 7] {
+        let mut alphabet = vec![
+            Operation::Fourier { q: 0 },
+            Operation::PhaseGate { q: 0 },
+            Operation::Measure { q: 0 },
+        ];
+        alphabet.extend((1..d).map(|u| Operation::Multiplier { q: 0, u }));
+        follow_every_circuit(d, 1, &alphabet, 5);
+    }
+}
+
+/// Follows the book of every multiplier, which is on qudit 0. It is struck by every single error,
+/// and above d = 7, where state vectors are long, by one on qudit 0 before the multiplier.
+fn follow_every_multiplier(book: impl Fn(u8, u8) -> Book) {
+    let mut rng = Rng(9);
+    let mut seen = Seen::default();
+    for (d, u) in every_factor() {
+        let book = book(d, u);
+        let multiplier = Operation::Multiplier { q: 0, u };
+        let place = book.operations().iter().position(|&o| o == multiplier);
+        let before = WeylError {
+            place: place.expect("a multiplier") as u16,
+            qudit: 0,
+            p: 1 + rng.byte_below(d - 1),
+            s: 1 + rng.byte_below(d - 1),
+        };
+        let errors = every_error(d, book.qudits(), book.operations().len());
+        for error in errors.filter(|&error| d <= 7 || error == before) {
+            let mut struck = book.clone();
+            struck.error(error);
+            follow(&struck, &mut seen);
+            follow_frame(&struck, &mut seen);
+        }
+    }
+    seen.verdicts.are_enough(500);
+}
+
+/// A pair at the levels j and j, with phases, goes to u·j and j: where the first is measured as 1,
+/// the second is certainly the inverse of u. The pivot of the first has the X power −u.
+#[test]
+fn every_multiplier_on_a_pair_of_like_levels() {
+    follow_every_multiplier(|d, u| {
+        let mut book = Book::new(d, 2);
+        book.operation(Operation::Fourier { q: 0 })
+            .operation(Operation::PhaseGate { q: 0 })
+            .operation(Operation::Sum { c: 0, t: 1 })
+            .operation(Operation::Multiplier { q: 0, u })
+            .measure(0, 1)
+            .measure(1, 0);
+        let results = follow(&book, &mut Seen::default()).results;
+        assert_eq!([results[0], results[1], results[3]], [1, 1, 0]);
+        assert_eq!(times(d, u, results[2]), 1);
+        book
+    });
+}
+
+/// After the multiplier, Fourier makes X powers of Z powers: the frame's then moves the result, and
+/// two stabilizers have 1/u and 2/u on the measured qudit, so that a power of the first changes the
+/// second. The multiplier again sends the measured level m to u·m.
+#[test]
+fn every_multiplier_before_and_after_a_measurement() {
+    follow_every_multiplier(|d, u| {
+        let m = d - 1;
+        let mut book = Book::new(d, 2);
+        book.operation(Operation::Fourier { q: 0 })
+            .operation(Operation::Fourier { q: 1 })
+            .operation(Operation::PhaseGate { q: 0 })
+            .operation(Operation::Cz { c: 0, t: 1 })
+            .operation(Operation::Cz { c: 0, t: 1 })
+            .operation(Operation::Multiplier { q: 0, u })
+            .operation(Operation::Fourier { q: 0 })
+            .measure(0, m)
+            .operation(Operation::Multiplier { q: 0, u })
+            .measure(0, 0);
+        let results = follow(&book, &mut Seen::default()).results;
+        assert_eq!(results, [m, 1, times(d, u, m), 0]);
+        book
+    });
 }
 
 /// The specification's cases without a star that a state vector can hold, by both runs: the listing

@@ -4,91 +4,11 @@
 mod common;
 
 use cagvost::book::{Book, DIMENSIONS, MAX_ERRORS, MAX_OPERATIONS, Operation, WeylError};
-use cagvost::{FrameRun, Verdict};
+use common::frames::{Buffers, carry_both};
 use common::plain::{self, Row};
-use common::{PAPER_BOOK, Rng, Shape, UNWRITTEN, Verdicts, run_both, test_of};
-use common::{draw_book, draw_error, draw_tableau, with_tail, zero_tableau};
+use common::{PAPER_BOOK, Rng, Shape, UNWRITTEN, Verdicts, run_both};
+use common::{draw_book, draw_error, draw_tableau, zero_tableau};
 use common::{with_raised_choices, without_errors};
-
-/// The four buffers of a frame run.
-#[derive(Clone, Debug, PartialEq, Eq)]
-struct Buffers {
-    tableau: Vec<u8>,
-    results: Vec<u8>,
-    shifts: Vec<u8>,
-    frame: Vec<u8>,
-}
-
-impl Buffers {
-    /// Room for a book, filled with bytes that a run must not read, and tails that it must keep.
-    fn drawn(rng: &mut Rng, n: u8, measurements: usize, tableau: Vec<u8>) -> Buffers {
-        let [results, shifts, frame] = [2 * measurements, 2 * usize::from(n), 2 * usize::from(n)]
-            .map(|length| {
-                let bytes = rng.bytes(length);
-                with_tail(rng, bytes)
-            });
-        Buffers {
-            tableau: with_tail(rng, tableau),
-            results,
-            shifts,
-            frame,
-        }
-    }
-
-    /// Exactly the room that a book needs, with the zero tableau.
-    fn zero(n: u8, measurements: usize) -> Buffers {
-        Buffers {
-            tableau: zero_tableau(n),
-            results: vec![UNWRITTEN; 2 * measurements],
-            shifts: vec![UNWRITTEN; 2 * usize::from(n)],
-            frame: vec![UNWRITTEN; 2 * usize::from(n)],
-        }
-    }
-
-    fn by_library(&mut self, book: &[u8]) -> (usize, usize, usize) {
-        let told = cagvost::frame_run(
-            book,
-            &mut self.tableau,
-            &mut self.results,
-            &mut self.shifts,
-            &mut self.frame,
-        );
-        match told {
-            Ok(FrameRun {
-                measurements,
-                verdict,
-            }) => (0, measurements, usize::from(verdict == Verdict::Shifted)),
-            Err(refusal) => (refusal.number(), refusal.place(), 0),
-        }
-    }
-
-    fn by_plain(&mut self, book: &[u8]) -> (usize, usize, usize) {
-        plain::frame_run(
-            book,
-            &mut self.tableau,
-            &mut self.results,
-            &mut self.shifts,
-            &mut self.frame,
-        )
-    }
-}
-
-/// A frame run by both, which must agree in each number and byte. A refusal must leave every byte,
-/// and what a run leaves must pass the test.
-fn carry_both(book: &[u8], before: &Buffers) -> ((usize, usize, usize), Buffers) {
-    let lent = book.to_vec();
-    let (mut left, mut expected) = (before.clone(), before.clone());
-    let told = left.by_library(&lent);
-    assert_eq!(told, expected.by_plain(book), "numbers of {book:02x?}");
-    assert!(left == expected, "bytes of {book:02x?}");
-    assert!(lent == book, "the book was written: {book:02x?}");
-    if told.0 != 0 {
-        assert!(left == *before, "{told:?} changed a buffer");
-    } else {
-        assert_eq!(test_of(book, &left.tableau), (0, 0), "after {book:02x?}");
-    }
-    (told, left)
-}
 
 // ---- Cases
 

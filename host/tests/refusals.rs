@@ -1,12 +1,13 @@
 //! Each refusal comes exactly when the list says, in the listed order, and leaves every byte.
 //!
-//! `run_both`, `layer_both` and `test_both` compare number, place and every lent byte with the plain
-//! reference, and every byte with what it was before a refusal.
+//! `run_both`, `carry_both`, `layer_both` and `test_both` compare number, place and every lent byte
+//! with the plain reference, and every byte with what it was before a refusal.
 
 mod common;
 
 use cagvost::book::{Book, DIMENSIONS, MAX_CHOICES, MAX_ERRORS, MAX_OPERATIONS};
 use cagvost::book::{Operation, WeylError};
+use common::frames::{Buffers, carry_both};
 use common::plain::{Told, is_valid, read};
 use common::{PAPER_BOOK, Rng, Shape, UNWRITTEN, layer_both, run_both, test_both};
 use common::{draw_book, draw_tableau, with_tail, zero_tableau};
@@ -157,6 +158,36 @@ fn refusal_5_every_operation_entry() {
 fn triples(of: &[u8]) -> impl Iterator<Item = (u8, u8, u8)> {
     let pairs = of.iter().flat_map(|&x| of.iter().map(move |&y| (x, y)));
     pairs.flat_map(|(x, y)| of.iter().map(move |&z| (x, y, z)))
+}
+
+/// Numbers from 1 to d − 1 alone are factors of a multiplier: 0 and every number from d up are
+/// refused, by both runs.
+#[test]
+fn refusal_5_every_factor() {
+    let mut rng = Rng(55);
+    for (d, u) in DIMENSIONS
+        .into_iter()
+        .flat_map(|d| (0..=255).map(move |u| (d, u)))
+    {
+        let (n, index) = (1 + rng.byte_below(3), rng.below(4));
+        let mut book = Book::new(d, n);
+        book.strike(0, 1, 1);
+        for i in 0..4 {
+            let q = rng.byte_below(n);
+            let good = 1 + rng.byte_below(d - 1);
+            let u = if i == index { u } else { good };
+            book.operation(Operation::Multiplier { q, u });
+        }
+        let book = book.measure(0, d - 1).to_bytes();
+        let tableau = draw_tableau(&mut rng, d, n);
+        let before = Buffers::drawn(&mut rng, n, 1, tableau);
+        let is_factor = (1..d).contains(&u);
+        let expected = if is_factor { (0, 1) } else { (5, index) };
+        let struck = run_both(&book, &before.tableau, &before.results);
+        let (carried, _) = carry_both(&book, &before);
+        assert_eq!(struck.told, expected, "d {d} u {u}");
+        assert_eq!((carried.0, carried.1), expected, "d {d} u {u}");
+    }
 }
 
 #[test]

@@ -12,6 +12,8 @@ pub enum Mix {
     Mixed,
     /// Gates alone.
     Gates,
+    /// Multipliers alone, of which each takes an inverse.
+    Multipliers,
     /// 1,024 times three gates and the measurement of one of the last eight qudits. It is free: the
     /// set had Z on that qudit since it was last measured, and Fourier makes this X.
     Measuring,
@@ -29,6 +31,7 @@ pub fn full(mix: Mix, d: u8, n: u8) -> Book {
         match mix {
             Mix::Mixed => mixed(&mut rng, k, &mut book),
             Mix::Gates => _ = book.operation(draw_gate(&mut rng, d, n)),
+            Mix::Multipliers => _ = book.operation(multiplier(&mut rng, d, n)),
             Mix::Measuring => measuring(&mut rng, k, &mut book),
         }
     }
@@ -50,6 +53,14 @@ fn mixed(rng: &mut Rng, k: usize, book: &mut Book) {
         book.measure(q.unwrap_or(rng.byte_below(n)), rng.byte_below(d));
     } else {
         book.operation(draw_gate(rng, d, n));
+    }
+}
+
+/// A multiplier on a drawn qudit by a drawn factor.
+fn multiplier(rng: &mut Rng, d: u8, n: u8) -> Operation {
+    Operation::Multiplier {
+        q: rng.byte_below(n),
+        u: 1 + rng.byte_below(d - 1),
     }
 }
 

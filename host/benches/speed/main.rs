@@ -92,6 +92,7 @@ fn full_books() {
     let mixes = [
         (Mix::Mixed, "mixed"),
         (Mix::Gates, "gates"),
+        (Mix::Multipliers, "multipliers"),
         (Mix::Measuring, "measuring"),
     ];
     for (mix, name) in mixes {
@@ -99,7 +100,7 @@ fn full_books() {
             let job = full_job(mix, d, QUDITS);
             let (free, certain) = kinds(&job);
             for (run, columns) in RUNS {
-                let label = format!("{run:<6} d {d:<2} {name:<9} {free:>4} f {certain:>3} c");
+                let label = format!("{run:<6} d {d:<2} {name:<11} {free:>4} f {certain:>3} c");
                 let times = take(&job, &columns, FULL_BOOK);
                 line(&label, Unit::MicrosPerCall, &times);
             }

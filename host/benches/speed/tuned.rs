@@ -12,7 +12,7 @@
 //! - A certain outcome is one sum of powers times phases, reduced once.
 //!
 //! What it does beyond that:
-//! - The tables are made once for each run.
+//! - The tables are made once for each run, one of all inverses with them.
 //! - Pairings are made of powers from −15 to 15, so that their sums fit 16 bits with a sign, two at
 //!   a time, and tested for divisibility without a division.
 
@@ -38,6 +38,8 @@ struct Modulo {
     rests: [u8; 256],
     /// Each product.
     products: [[u8; 32]; 32],
+    /// The inverse of each number but 0.
+    inverses: [u8; 32],
 }
 
 impl Modulo {
@@ -62,6 +64,7 @@ impl Modulo {
             reciprocal: (65536 / u32::from(d)) as u16,
             rests,
             products,
+            inverses: inverses(d, &products),
         }
     }
 
@@ -83,9 +86,20 @@ impl Modulo {
     }
 
     fn inverse(&self, u: u8) -> u8 {
-        let line = &self.times(u)[..usize::from(self.d)];
-        line.iter().position(|&x| x == 1).expect("u is not 0") as u8
+        look_up(&self.inverses, u)
     }
+}
+
+/// The inverse of each number, by that of a smaller one: as d is (d/x)·x and a rest, −(d/x) times x
+/// leaves that rest.
+fn inverses(d: u8, products: &[[u8; 32]; 32]) -> [u8; 32] {
+    let mut inverses = [0; 32];
+    inverses[1] = 1;
+    for x in 2..d {
+        let smaller = inverses[usize::from(d % x)];
+        inverses[usize::from(x)] = look_up(&products[usize::from(d - d / x)], smaller);
+    }
+    inverses
 }
 
 /// The entry of a line of products.

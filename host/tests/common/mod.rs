@@ -2,10 +2,11 @@
 #![allow(dead_code)] // each test file uses its own part
 
 pub mod dense;
+pub mod frames;
 pub mod plain;
 
 use cagvost::Refusal;
-use cagvost::book::{Book, Operation, WeylError};
+use cagvost::book::{Book, DIMENSIONS, Operation, WeylError};
 
 /// A byte that no call writes: results, marks, shifts, powers and phases are below 31. Buffers are
 /// filled with it before a call, so that a byte left unwritten shows.
@@ -28,6 +29,19 @@ pub fn paper_book() -> Book {
         .measure(1, 0);
     assert_eq!(book.to_bytes(), PAPER_BOOK);
     book
+}
+
+// ---- Factors
+
+/// Every dimension with each factor that a multiplier can have there.
+pub fn every_factor() -> impl Iterator<Item = (u8, u8)> {
+    let factors = |d: u8| (1..d).map(move |u| (d, u));
+    DIMENSIONS.into_iter().flat_map(factors)
+}
+
+/// The rest of x·y.
+pub fn times(d: u8, x: u8, y: u8) -> u8 {
+    (u16::from(x) * u16::from(y) % u16::from(d)) as u8
 }
 
 // ---- Drawing

@@ -1,8 +1,10 @@
 -- `inverse::inverse` meets its contract.
 -- Assumes nothing.
-use mathlib.Core.Path.{sym, _∙_}
+use mathlib.Core.Path.{_≡_, sym, _∙_}
+use Prim.Native.Nat.{_-_}
 use native.Mathlib.Omega.{arith}
 use borrow.Author.Needs.{needs}
+use Rattle.modular.specs.Dimension.{powerOf}
 use Rattle.modular.proofs.Listed.{dimension, inverse-below, inverse-past}
 use Rattle.inverse.proofs.inverse.Statement.{statement}
 use Rattle.inverse.proofs.inverse.Tie as tie
@@ -22,7 +24,10 @@ power-requires c κs = (omega (arith, c .before .if1 .left), c .reciprocal .ensu
 returns-2 : tie.Need-returns-2
 returns-2 c =
     let s = c .before .before in
-    c .power .ensures ∙ sym (inverse-below (s .before .args .d) (s .before .args .u) (omega (arith, s .if1 .left)))
+    let d = s .before .args .d in
+    let u = s .before .args .u in
+    let power : c .power .result ≡ powerOf d u (d - 2) = c .power .ensures in
+    power ∙ sym (inverse-below d u (omega (arith, s .if1 .left)))
 
 pub inverse-spec : {M : Type 1} → statement M
 inverse-spec = tie.close (tie.spec returns reciprocal-requires sub-power power-requires returns-2)
