@@ -100,7 +100,7 @@ fn every_number_of_qudits() {
     let mut seen = Seen::default();
     for n in 1..=64 {
         let shape = Shape {
-            d: DIMENSIONS[usize::from(n) % 10],
+            d: DIMENSIONS[usize::from(n) % DIMENSIONS.len()],
             n,
             operations: 150,
             errors: 50,
@@ -199,7 +199,7 @@ fn measure_levels(rng: &mut Rng, d: u8, n: u8) {
 fn certain_outcomes_are_the_levels() {
     let mut rng = Rng(10);
     for n in 1..=64 {
-        for d in [3, DIMENSIONS[usize::from(n) % 10]] {
+        for d in [3, DIMENSIONS[usize::from(n) % DIMENSIONS.len()]] {
             measure_levels(&mut rng, d, n);
         }
     }

@@ -424,9 +424,9 @@ fn every_multiplier_on_a_pair_of_like_levels() {
     });
 }
 
-/// After the multiplier, Fourier makes X powers of Z powers: the frame's then moves the result, and
-/// two stabilizers have 1/u and 2/u on the measured qudit, so that a power of the first changes the
-/// second. The multiplier again sends the measured level m to u·m.
+/// After the multiplier, Fourier makes X powers of Z powers: that of the frame then moves the
+/// result, and two stabilizers have 1/u and 2/u on the measured qudit, so that a power of the first
+/// changes the second. The multiplier again sends the measured level m to u·m.
 #[test]
 fn every_multiplier_before_and_after_a_measurement() {
     follow_every_multiplier(|d, u| {

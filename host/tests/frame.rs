@@ -353,7 +353,7 @@ fn clean_exactly_if_the_set_is_that_without_errors() {
     let mut seen = Verdicts::default();
     for n in 1..=64 {
         for (i, kind) in kinds.into_iter().enumerate() {
-            let d = DIMENSIONS[(usize::from(n) + i) % 10];
+            let d = DIMENSIONS[(usize::from(n) + i) % DIMENSIONS.len()];
             carry_kind(&mut rng, kind, d, n, &mut seen);
         }
     }

@@ -3,7 +3,7 @@
 //! pivot's X power.
 //!
 //! The plain reference searches for an inverse. What is said here beside it, of the bytes that the
-//! library leaves, is said without one.
+//! library leaves, is said without one, but for the factor that undoes a multiplier.
 
 mod common;
 

@@ -371,7 +371,7 @@ fn refusal_9_every_byte_of_a_small_tableau() {
 fn refusal_9_damaged_tableaus_of_every_size() {
     let mut rng = Rng(99);
     for _ in 0..1500 {
-        let d = DIMENSIONS[rng.below(10)];
+        let d = DIMENSIONS[rng.below(DIMENSIONS.len())];
         let most = if rng.once_in(20) { 64 } else { 6 };
         let n = 1 + rng.byte_below(most);
         let (width, modulus) = (2 * usize::from(n) + 1, usize::from(d));
@@ -421,7 +421,10 @@ fn refusal_9_rows_in_the_wrong_place() {
 fn bytes_past_the_needed_ones_are_kept() {
     let mut rng = Rng(10);
     for _ in 0..300 {
-        let (d, n) = (DIMENSIONS[rng.below(10)], 1 + rng.byte_below(6));
+        let (d, n) = (
+            DIMENSIONS[rng.below(DIMENSIONS.len())],
+            1 + rng.byte_below(6),
+        );
         let (operations, errors) = (rng.below(30), rng.below(5));
         let book = draw_book(
             &mut rng,

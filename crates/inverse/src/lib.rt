@@ -5,7 +5,7 @@ ghost use Prim.Native.Nat.{_<_};
 ghost use Rattle.modular.specs.Modular.{Reciprocal};
 ghost use Rattle.modular.specs.Dimension.{listed, powerOf, inverse};
 
-// u to the power k, by squares: 7 products for the inverses modulo 31, and not 29.
+// u to the power k, by squares: 7 products for an inverse modulo 31, and not 29.
 fn power(d: u8, m: u16, u: u8, k: u8) -> u8
     requires { ⌜ (u < d) × Reciprocal d m ⌝ }
     ensures { λ r. ⌜ r ≡ powerOf d u k ⌝ }

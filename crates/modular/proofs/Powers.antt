@@ -15,17 +15,16 @@ power-less d u (suc k) h = mod-lt _ (omega arith)
 
 pub power-zero : (d k : ℕ) → powerOf d 0 (suc k) ≡ 0
 unfolding powerOf
-power-zero d k = ap (λ (x : ℕ). x % d) (mul-zero (powerOf d 0 k)) ∙ zero-mod d
+power-zero d k = ap (λ (x : ℕ). x % d) (mul-zero _) ∙ zero-mod d
 
 power-double : (d u h : ℕ) → powerOf d (u * u % d) h ≡ powerOf d u (h + h)
 unfolding powerOf
 power-double d u zero = refl
 power-double d u (suc h) =
-    let p = powerOf d u (h + h) in
     let twice : suc (suc (h + h)) ≡ suc h + suc h = omega arith in
     ap (λ (x : ℕ). x * (u * u % d) % d) (power-double d u h)
-    ∙ exchange d p u u
-    ∙ ap (λ (x : ℕ). x % d) (mul-comm u (p * u % d))
+    ∙ exchange d _ u u
+    ∙ ap (λ (x : ℕ). x % d) (mul-comm u _)
     ∙ ap (powerOf d u) twice
 
 -- a power with an even exponent is a power of the square; with an odd one, u is left as a factor

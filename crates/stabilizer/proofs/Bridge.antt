@@ -1,4 +1,4 @@
--- From tables, rests and bytes to congruences, and back.
+-- From rests and bytes to congruences, and back.
 -- Assumes nothing.
 use mathlib.Core.Path.{_≡_, refl, _∙_, ap}
 use Prim.Native.Nat.{ℕ, suc, _+_, _*_, _≤_, _<_, _%_}
@@ -11,13 +11,13 @@ use Rattle.symplectic.proofs.Pairing.{half, pair, pair-zed}
 use Rattle.stabilizer.proofs.Span.{Inverses, none-right}
 use Rattle.stabilizer.proofs.Basis.{Valid}
 
--- Inverses from a table.
-pub inverses : (e : ℕ) (table : ℕ → ℕ) → ((u : ℕ) → 0 < u → u < suc e → u * table u % suc e ≡ 1) → Inverses (suc e)
+-- Inverses from their rule: u times f u leaves 1.
+pub inverses : (e : ℕ) (f : ℕ → ℕ) → ((u : ℕ) → 0 < u → u < suc e → u * f u % suc e ≡ 1) → Inverses (suc e)
 unfolding Inverses
-inverses e table h u nz = (
-  table (u % suc e),
-  cong-trans (cong-mul-right (table (u % suc e)) (cong-mod (suc e) u))
-      (cong-trans (cong-mod (suc e) (u % suc e * table (u % suc e)))
+inverses e f h u nz = (
+  f (u % suc e),
+  cong-trans (cong-mul-right (f (u % suc e)) (cong-mod (suc e) u))
+      (cong-trans (cong-mod (suc e) (u % suc e * f (u % suc e)))
       (cong-eq (suc e) (h (u % suc e) (omega arith) (mod-lt u (omega arith))))),
 )
 

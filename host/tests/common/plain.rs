@@ -24,8 +24,8 @@ fn dot(x: &[i64], y: &[i64]) -> i64 {
     x.iter().zip(y).map(|(x, y)| x * y).sum()
 }
 
-/// The number below d that times u leaves 1. It is searched for, by neither table nor formula, so
-/// that no fault of either can be here too.
+/// The number below d that times u leaves 1. It is searched for and not worked out, so that no fault
+/// of the formula can be here too.
 pub fn inverse(d: i64, u: i64) -> i64 {
     (1..d)
         .find(|v| u * v % d == 1)

@@ -10,7 +10,7 @@ use Rattle.inverse.proofs.inverse.Statement.{statement}
 use Rattle.inverse.proofs.inverse.Tie as tie
 
 returns : tie.Need-returns
-returns c = sym (inverse-past (c .before .args .d) (c .before .args .u) (omega (arith, c .if1 .taken)))
+returns c = sym (inverse-past (c .before .args .d) (c .before .args .u) (omega arith))
 
 reciprocal-requires : tie.Need-reciprocal-requires
 reciprocal-requires c κs = let dim = dimension _ (c .before .pre) in (dim .low, dim .high)
@@ -19,7 +19,7 @@ sub-power : tie.Need-sub-power
 sub-power c = search needs
 
 power-requires : tie.Need-power-requires
-power-requires c κs = (omega (arith, c .before .if1 .left), c .reciprocal .ensures)
+power-requires c κs = (omega arith, c .reciprocal .ensures)
 
 returns-2 : tie.Need-returns-2
 returns-2 c =
@@ -27,7 +27,7 @@ returns-2 c =
     let d = s .before .args .d in
     let u = s .before .args .u in
     let power : c .power .result ≡ powerOf d u (d - 2) = c .power .ensures in
-    power ∙ sym (inverse-below d u (omega (arith, s .if1 .left)))
+    power ∙ sym (inverse-below d u (omega arith))
 
 pub inverse-spec : {M : Type 1} → statement M
 inverse-spec = tie.close (tie.spec returns reciprocal-requires sub-power power-requires returns-2)

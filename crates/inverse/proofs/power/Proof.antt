@@ -24,7 +24,7 @@ loop-holds c =
     let d = start .args .d in
     let u = start .args .u in
     let k = start .args .k in
-    let one : 1 < d = omega (arith, start .pre .1 .low) in
+    let one : 1 < d = omega arith in
     ⊎-elim
     (λ w. rw (w .1) (start .pre .0, start .pre .0, power-odd d u k (w .0 .taken)))
     (λ w. rw (w .1) (one, start .pre .0, ap (λ (p : ℕ). p % d) (mul-one _) ∙ mod-eq-of-lt (power-less d _ _ one) ∙ power-even d u k (w .0 .left)))
@@ -35,21 +35,21 @@ mul-requires c κs = search needs
 
 -- the square is below d
 square : (c : tie.After-mul Inv-loop μ-loop) → c .mul .result < c .before .before .before .before .args .d
-square c = rest-less _ (omega (arith, c .before .before .before .before .pre .1 .low)) (c .mul .ensures)
+square c = rest-less _ (omega arith) (c .mul .ensures)
 
 mul-requires-2 : tie.Need-mul-requires-2 Inv-loop μ-loop
 mul-requires-2 c κs =
     (c .before .before .before .loop .inv .0, square (c .before), c .before .before .before .before .before .pre .1)
 
 loop-less : tie.Need-loop-less Inv-loop μ-loop
-loop-less c = omega (arith, c .before .before .loop-test)
+loop-less c = omega arith
 
--- what the body multiplies to x, it takes from the square's power
+-- where j is odd, one factor s goes from the power to x
 taken : (d s x j : ℕ) → j % 2 ≡ 1 → powerOf d (s * s % d) (j / 2) * (x * s % d) % d ≡ powerOf d s j * x % d
 taken d s x j h =
-    exchange d (powerOf d (s * s % d) (j / 2)) x s
+    exchange d _ x s
     ∙ ap (λ (p : ℕ). x * p % d) (power-odd d s j h)
-    ∙ ap (λ (p : ℕ). p % d) (mul-comm x (powerOf d s j))
+    ∙ ap (λ (p : ℕ). p % d) (mul-comm x _)
 
 loop-again : tie.Need-loop-again Inv-loop μ-loop
 loop-again c =
@@ -60,7 +60,7 @@ loop-again c =
     let before : powerOf d s (l .j) * l .x % d ≡ powerOf d (start .args .u) (start .args .k) = rw (c .before .mul .ensures) (l .inv .2) in
     ⊎-elim
     (λ w. rw (w .2) (
-      rest-less _ (omega (arith, start .pre .1 .low)) (w .1 .ensures),
+      rest-less _ (omega arith) (w .1 .ensures),
       square (c .before),
       rw (w .1 .ensures) (taken d s (l .x) (l .j) (w .0 .taken)) ∙ before,
     ))
@@ -82,7 +82,7 @@ whole d s x j l z =
 returns : tie.Need-returns Inv-loop μ-loop
 returns c =
     let l = c .before .loop in
-    sym (whole (c .before .before .before .args .d) _ (l .x) (l .j) (l .inv .0) (omega (arith, c .loop-test .left))) ∙ l .inv .2
+    sym (whole (c .before .before .before .args .d) _ (l .x) (l .j) (l .inv .0) (omega arith)) ∙ l .inv .2
 
 pub power-spec : {M : Type 1} → statement M
 power-spec =
