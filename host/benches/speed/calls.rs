@@ -1,30 +1,13 @@
 //! The calls that are timed: each by Cagvost, by the tuned Rust and by the plain Rust.
 
-use crate::common::plain;
+use crate::common::frames::Buffers;
+use crate::common::{UNWRITTEN, plain};
 use crate::tuned;
+use cagvost::Refusal;
 use cagvost::book::Book;
-use cagvost::{Refusal, Verdict};
 
-/// The buffers of a call. A direct run leaves the last two, and the tableau test leaves all.
-#[derive(Clone, PartialEq, Eq)]
-pub struct Buffers {
-    pub tableau: Vec<u8>,
-    pub results: Vec<u8>,
-    pub shifts: Vec<u8>,
-    pub frame: Vec<u8>,
-}
-
-impl Buffers {
-    /// Copies the bytes of others of the same lengths.
-    pub fn refill(&mut self, from: &Buffers) {
-        self.tableau.copy_from_slice(&from.tableau);
-        self.results.copy_from_slice(&from.results);
-        self.shifts.copy_from_slice(&from.shifts);
-        self.frame.copy_from_slice(&from.frame);
-    }
-}
-
-/// A book and the buffers before it. The tableau test takes its sizes and the tableau alone.
+/// A book and the buffers before it. A direct run leaves the last two, and the tableau test, which
+/// takes the sizes and the tableau alone, leaves all.
 pub struct Job {
     pub d: usize,
     pub n: usize,
@@ -37,9 +20,9 @@ impl Job {
         let n = usize::from(book.qudits());
         let before = Buffers {
             tableau,
-            results: vec![99; cagvost::results_len(book.measurements())],
-            shifts: vec![99; cagvost::shifts_len(n)],
-            frame: vec![99; cagvost::frame_len(n)],
+            results: vec![UNWRITTEN; cagvost::results_len(book.measurements())],
+            shifts: vec![UNWRITTEN; cagvost::shifts_len(n)],
+            frame: vec![UNWRITTEN; cagvost::frame_len(n)],
         };
         Job {
             d: book.dimension().into(),
@@ -80,19 +63,7 @@ pub const DIRECT: Columns = [
 ];
 
 pub const FRAME: Columns = [
-    |job, b| {
-        let told = cagvost::frame_run(
-            &job.book,
-            &mut b.tableau,
-            &mut b.results,
-            &mut b.shifts,
-            &mut b.frame,
-        );
-        match told {
-            Ok(run) => (0, run.measurements, verdict(run.verdict)),
-            Err(refusal) => (refusal.number(), refusal.place(), 0),
-        }
-    },
+    |job, b| b.by_library(&job.book),
     |job, b| {
         tuned::frame_run(
             &job.book,
@@ -102,23 +73,8 @@ pub const FRAME: Columns = [
             &mut b.frame,
         )
     },
-    |job, b| {
-        plain::frame_run(
-            &job.book,
-            &mut b.tableau,
-            &mut b.results,
-            &mut b.shifts,
-            &mut b.frame,
-        )
-    },
+    |job, b| b.by_plain(&job.book),
 ];
-
-fn verdict(verdict: Verdict) -> usize {
-    match verdict {
-        Verdict::Clean => 0,
-        Verdict::Shifted => 1,
-    }
-}
 
 fn numbers(told: Result<usize, Refusal>) -> Told {
     match told {

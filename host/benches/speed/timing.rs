@@ -1,6 +1,7 @@
 //! Timing by turns, and the table.
 
-use crate::calls::{Buffers, Call, Columns, Job, Told};
+use crate::calls::{Call, Columns, Job, Told};
+use crate::common::frames::Buffers;
 use std::hint::black_box;
 use std::time::{Duration, Instant};
 
@@ -58,7 +59,7 @@ fn rounds<const N: usize>(
                 continue;
             }
             for (j, job) in jobs.iter().enumerate() {
-                buffers[j].refill(&job.before);
+                refill(&mut buffers[j], &job.before);
                 let start = Instant::now();
                 let told = columns[i](black_box(job), black_box(&mut buffers[j]));
                 times[j][i].push(start.elapsed());
@@ -68,6 +69,14 @@ fn rounds<const N: usize>(
         }
     }
     times
+}
+
+/// Copies bytes into buffers of the same lengths, without new memory.
+fn refill(buffers: &mut Buffers, from: &Buffers) {
+    buffers.tableau.copy_from_slice(&from.tableau);
+    buffers.results.copy_from_slice(&from.results);
+    buffers.shifts.copy_from_slice(&from.shifts);
+    buffers.frame.copy_from_slice(&from.frame);
 }
 
 /// What the columns agree in: the numbers and every byte. Each is called once.

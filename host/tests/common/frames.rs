@@ -38,7 +38,8 @@ impl Buffers {
         }
     }
 
-    fn by_library(&mut self, book: &[u8]) -> (usize, usize, usize) {
+    /// A frame run: its number, its place or measurements, and the verdict.
+    pub fn by_library(&mut self, book: &[u8]) -> (usize, usize, usize) {
         let told = cagvost::frame_run(
             book,
             &mut self.tableau,
@@ -55,7 +56,8 @@ impl Buffers {
         }
     }
 
-    fn by_plain(&mut self, book: &[u8]) -> (usize, usize, usize) {
+    /// The same call to the plain reference.
+    pub fn by_plain(&mut self, book: &[u8]) -> (usize, usize, usize) {
         plain::frame_run(
             book,
             &mut self.tableau,
