@@ -12,7 +12,7 @@ pub enum Mix {
     Mixed,
     /// Gates alone.
     Gates,
-    /// Multipliers alone, of which each takes an inverse.
+    /// Multipliers alone. Each takes an inverse, and in a frame run two.
     Multipliers,
     /// 1,024 times three gates and the measurement of one of the last eight qudits. It is free: the
     /// set had Z on that qudit since it was last measured, and Fourier makes this X.
