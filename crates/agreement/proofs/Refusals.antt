@@ -2,26 +2,28 @@
 -- Assumes nothing.
 use mathlib.Core.Path.{_≡_, refl}
 use mathlib.Core.Logic.{_≢_}
-use mathlib.Core.Bool.{Bool, true, false}
+use mathlib.Core.Bool.{true}
 use mathlib.Core.List.{List, [], _∷_}
-use Prim.Native.Nat.{ℕ}
+use Prim.Native.Nat.{ℕ, _<_}
+use native.Mathlib.Omega.{arith}
 use lib.Dec.{leb}
 use lib.ListN.{length}
 use borrow.Author.Tests.{ne-eqb}
 use Rattle.modular.specs.Dimension.{among, listed}
-use Rattle.search.specs.declared.Place.{Place}
-use Rattle.search.specs.declared.Place.the-variants.{At, Nowhere}
-use Rattle.search.specs.Search.{unless}
 use Rattle.search.proofs.Search.{unless-cases}
 use Rattle.tableau.specs.Tableau.{sized}
 use Rattle.layer.specs.Layer.{layerNumber, layerLeaves}
 use Rattle.validity.specs.Validity.{valid, testNumber}
-use Rattle.body.specs.Body.{Told, refused, accepted, at, badOperation, badError, badChoice, readBodies}
-use Rattle.book.specs.Book.{headed, dimensionOf, quditsOf, partOf, badContents, readBook}
+use Rattle.body.specs.Body.{Told, refused, accepted}
+use Rattle.body.proofs.Refuses.{Refuses}
+use Rattle.book.specs.Book.{readBook}
+use Rattle.book.proofs.Refuses.{read-refuses}
 use Rattle.book.specs.Decoded.{measurementsIn}
+use Rattle.written.specs.Writer.{writeBook}
+use Rattle.written.proofs.Writer.{write-cases}
 use Rattle.direct.specs.DirectBook.{Left, roomy, directTold, directBook}
 use Rattle.framed.specs.FrameBook.{Buffers, FrameLeft, frameRoomy, frameTold, frameBook}
-use Rattle.agreement.specs.Refusals.{runNumbers, NumbersListed, LayerUnchanged, DirectUnchanged, FrameUnchanged}
+use Rattle.agreement.specs.Refusals.{runNumbers, writerNumbers, NumbersListed, WriterNamesBody, LayerUnchanged, WriterUnchanged, DirectUnchanged, FrameUnchanged}
 
 layer-listed : (d n : ℕ) (t : List ℕ) → among (layerNumber d n t) (0 ∷ 2 ∷ 3 ∷ 8 ∷ []) ≡ true
 unfolding layerNumber
@@ -42,65 +44,62 @@ test-listed d n t =
     P : ℕ → Type 0
     P number = among number (0 ∷ 2 ∷ 3 ∷ 8 ∷ 9 ∷ []) ≡ true
 
--- What the reader tells: its refusal has a listed number.
-abbrev numberIn : Told → ℕ
-numberIn (refused number place) = number
-numberIn (accepted d n operations errors choices) = 0
+-- what the reader refuses has a listed number
+read-listed : (s : List ℕ) → Refuses (λ number place. among number runNumbers ≡ true) (readBook s)
+read-listed = read-refuses _ refl refl refl (λ k. refl) (λ k. refl) (λ k. refl) (λ k. refl)
 
-record Listed (told : Told) : Type 0 where
-  is : among (numberIn told) runNumbers ≡ true
-
-listed-unless : (test : Bool) (number place : ℕ) → among number runNumbers ≡ true → {rest : Told} → Listed rest → Listed (unless test (refused number place) rest)
-listed-unless true number place l h = h
-listed-unless false number place l h = record { is = l }
-
-listed-at : (number : ℕ) → among number runNumbers ≡ true → (p : Place) {rest : Told} → Listed rest → Listed (at number p rest)
-listed-at number l (At k) h = record { is = l }
-listed-at number l Nowhere h = h
-
-listed-bodies : (d n : ℕ) (ops errors choices : List ℕ) → Listed (readBodies d n ops errors choices)
-unfolding readBodies
-listed-bodies d n ops errors choices =
-    listed-at 5 refl (badOperation d n ops) (listed-at 6 refl (badError d n _ errors) (listed-at 7 refl (badChoice d _ choices) (record { is = refl })))
-
-read-listed : (s : List ℕ) → Listed (readBook s)
-unfolding readBook
-read-listed s =
-    listed-unless (headed s) 1 0 refl
-    (listed-unless (listed (dimensionOf s)) 2 0 refl
-    (listed-unless (sized (quditsOf s)) 3 0 refl
-    (listed-at 4 refl (badContents s) (listed-bodies (dimensionOf s) (quditsOf s) (partOf s 4) (partOf s 10) (partOf s 16)))))
+writer-listed : (d n : ℕ) (ops errors choices out : List ℕ) → among (writeBook d n ops errors choices out .number) writerNumbers ≡ true
+writer-listed d n ops errors choices out =
+    write-cases d n ops errors choices out (λ left. among (left .number) writerNumbers ≡ true)
+    refl refl (λ k l. refl) (λ k. refl) (λ k. refl) (λ k. refl) refl (λ h. refl)
 
 direct-listed : (s t results : List ℕ) → among (directBook s t results .number) runNumbers ≡ true
 unfolding directBook directTold
-direct-listed s t results = go (readBook s) (read-listed s)
+direct-listed s t results = go (readBook s) refl
   where
     P : Left → Type 0
     P l = among (l .number) runNumbers ≡ true
 
-    go : (x : Told) → Listed x → P (directTold s t results x)
-    go (refused number place) h = h .is
+    go : (x : Told) → readBook s ≡ x → P (directTold s t results x)
+    go (refused number place) h = read-listed s .with number place h
     go (accepted d n operations errors choices) h =
         unless-cases P (roomy n (measurementsIn s d n) t results) (λ e. refl) (λ e. unless-cases P (valid d n t) (λ e. refl) (λ e. refl))
 
 frame-listed : (s : List ℕ) (lent : Buffers) → among (frameBook s lent .number) runNumbers ≡ true
 unfolding frameBook frameTold
-frame-listed s lent = go (readBook s) (read-listed s)
+frame-listed s lent = go (readBook s) refl
   where
     P : FrameLeft → Type 0
     P l = among (l .number) runNumbers ≡ true
 
-    go : (x : Told) → Listed x → P (frameTold s lent x)
-    go (refused number place) h = h .is
+    go : (x : Told) → readBook s ≡ x → P (frameTold s lent x)
+    go (refused number place) h = read-listed s .with number place h
     go (accepted d n operations errors choices) h =
         unless-cases P (frameRoomy n (measurementsIn s d n) lent) (λ e. refl) (λ e. unless-cases P (valid d n (lent .tableau)) (λ e. refl) (λ e. refl))
 
 pub numbers-listed : NumbersListed
-numbers-listed = record { layer = layer-listed; test = test-listed; direct = direct-listed; frame = frame-listed }
+numbers-listed = record { layer = layer-listed; test = test-listed; writer = writer-listed; direct = direct-listed; frame = frame-listed }
 
 pub layer-unchanged : LayerUnchanged
 unfolding layerLeaves
 layer-unchanged d n t h = rw (ne-eqb (layerNumber d n t) 0 h)
+
+pub writer-names-body : WriterNamesBody
+writer-names-body d n ops errors choices out =
+    write-cases d n ops errors choices out (λ left. left .number ≡ 4 → left .place < 3)
+    (λ e. omega arith)
+    (λ e. omega arith)
+    (λ k l e. l)
+    (λ k e. absurd (omega arith))
+    (λ k e. absurd (omega arith))
+    (λ k e. absurd (omega arith))
+    (λ e. omega arith)
+    (λ h e. absurd (omega arith))
+
+pub writer-unchanged : WriterUnchanged
+writer-unchanged d n ops errors choices out =
+    write-cases d n ops errors choices out (λ left. left .number ≢ 0 → left .out ≡ out)
+    (λ h. refl) (λ h. refl) (λ k l h. refl) (λ k h. refl) (λ k h. refl) (λ k h. refl) (λ h. refl) (λ e h. absurd (h refl))
 
 pub direct-unchanged : DirectUnchanged
 unfolding directBook directTold

@@ -3,10 +3,11 @@ use mathlib.Core.Path.{_≡_}
 use mathlib.Core.Bool.{true}
 use mathlib.Core.Logic.{_≢_}
 use mathlib.Core.List.{List, [], _∷_}
-use Prim.Native.Nat.{ℕ}
+use Prim.Native.Nat.{ℕ, _<_}
 use Rattle.modular.specs.Dimension.{among}
 use Rattle.layer.specs.Layer.{layerNumber, layerLeaves}
 use Rattle.validity.specs.Validity.{testNumber}
+use Rattle.written.specs.Writer.{writeBook}
 use Rattle.direct.specs.DirectBook.{directBook}
 use Rattle.framed.specs.FrameBook.{Buffers, frameBook}
 
@@ -14,16 +15,30 @@ use Rattle.framed.specs.FrameBook.{Buffers, frameBook}
 abbrev pub runNumbers : List ℕ
 runNumbers = 0 ∷ 1 ∷ 2 ∷ 3 ∷ 4 ∷ 5 ∷ 6 ∷ 7 ∷ 8 ∷ 9 ∷ []
 
+-- The writer: what the reader would refuse, but for 1, since a written book has its header; then 8.
+abbrev pub writerNumbers : List ℕ
+writerNumbers = 0 ∷ 2 ∷ 3 ∷ 4 ∷ 5 ∷ 6 ∷ 7 ∷ 8 ∷ []
+
 -- No call returns a number that is not in its list.
 pub record NumbersListed : Type 0 where
   pub layer : (d n : ℕ) (t : List ℕ) → among (layerNumber d n t) (0 ∷ 2 ∷ 3 ∷ 8 ∷ []) ≡ true
   pub test : (d n : ℕ) (t : List ℕ) → among (testNumber d n t) (0 ∷ 2 ∷ 3 ∷ 8 ∷ 9 ∷ []) ≡ true
+  pub writer : (d n : ℕ) (ops errors choices out : List ℕ) → among (writeBook d n ops errors choices out .number) writerNumbers ≡ true
   pub direct : (s t results : List ℕ) → among (directBook s t results .number) runNumbers ≡ true
   pub frame : (s : List ℕ) (lent : Buffers) → among (frameBook s lent .number) runNumbers ≡ true
+
+-- The writer's 4 names one of the three bodies: the end of a written book is never wrong.
+abbrev pub WriterNamesBody : Type 0
+WriterNamesBody = (d n : ℕ) (ops errors choices out : List ℕ) → writeBook d n ops errors choices out .number ≡ 4
+    → writeBook d n ops errors choices out .place < 3
 
 -- Each refusal leaves every buffer unchanged; the frame run's verdict is then 0. The tableau test writes no buffer.
 abbrev pub LayerUnchanged : Type 0
 LayerUnchanged = (d n : ℕ) (t : List ℕ) → layerNumber d n t ≢ 0 → layerLeaves d n t ≡ t
+
+abbrev pub WriterUnchanged : Type 0
+WriterUnchanged = (d n : ℕ) (ops errors choices out : List ℕ) → writeBook d n ops errors choices out .number ≢ 0
+    → writeBook d n ops errors choices out .out ≡ out
 
 abbrev pub DirectUnchanged : Type 0
 DirectUnchanged = (s t results : List ℕ) → directBook s t results .number ≢ 0

@@ -33,28 +33,38 @@ all-passed s good e =
     let p4 = nowhere 4 (badContents s) _ good (p3 .1) in
     record { head = p1 .0; dimension = p2 .0; qudits = p3 .0; contents = p4 .0; bodies = p4 .1 }
 
--- a headed book has at least 22 bytes
+-- a headed book has at least 22 bytes, and these two among them
 pub head-room : (s : List ℕ) → headed s ≡ true → 22 ≤ length s
 unfolding headed
 head-room s e = leb-true _ _ (and-eq-true-iff (leb 22 (length s)) _ .0 e .0)
 
--- each body begins where the last one ended, and the book ends with the third; operations and choices are whole and not too many
-pub record Laid (s : List ℕ) : Type 0 where
-  pub first : offsetOf s 4 ≡ 22
-  pub second : offsetOf s 10 ≡ endOf s 4
-  pub third : offsetOf s 16 ≡ endOf s 10
-  pub ends : endOf s 16 ≡ length s
-  pub first-whole : lengthFits (lengthOf s 4) 4 4096 ≡ true
-  pub third-whole : lengthFits (lengthOf s 16) 1 4096 ≡ true
+pub head-bytes : (s : List ℕ) → headed s ≡ true → (getD s 0 0 ≡ 81) × (getD s 3 0 ≡ 3)
+unfolding headed
+head-bytes s e =
+    let b = and-eq-true-iff (eqb (getD s 0 0) 81) _ .0 (and-eq-true-iff (leb 22 (length s)) _ .0 e .1) in
+    (eqb-true _ _ (b .0), eqb-true _ _ (b .1))
 
-fits : (s : List ℕ) (at kind start size most : ℕ) → entryFits s at kind start size most ≡ true
-    → (offsetOf s at ≡ start) × (lengthFits (lengthOf s at) size most ≡ true)
+-- an entry of the contents that fits
+pub record ContentsEntry (s : List ℕ) (at kind start size most : ℕ) : Type 0 where
+  pub kind-byte : getD s at 0 ≡ kind
+  pub zero-byte : getD s (at + 1) 0 ≡ 0
+  pub offset : offsetOf s at ≡ start
+  pub whole : lengthFits (lengthOf s at) size most ≡ true
+
+fits : (s : List ℕ) (at kind start size most : ℕ) → entryFits s at kind start size most ≡ true → ContentsEntry s at kind start size most
 unfolding entryFits
 fits s at kind start size most e =
-    let e1 = and-eq-true-iff (eqb (getD s at 0) kind) _ .0 e .1 in
-    let e2 = and-eq-true-iff (eqb (getD s (at + 1) 0) 0) _ .0 e1 .1 in
-    let e3 = and-eq-true-iff (eqb (offsetOf s at) start) _ .0 e2 in
-    (eqb-true _ _ (e3 .0), e3 .1)
+    let e1 = and-eq-true-iff (eqb (getD s at 0) kind) _ .0 e in
+    let e2 = and-eq-true-iff (eqb (getD s (at + 1) 0) 0) _ .0 (e1 .1) in
+    let e3 = and-eq-true-iff (eqb (offsetOf s at) start) _ .0 (e2 .1) in
+    record { kind-byte = eqb-true _ _ (e1 .0); zero-byte = eqb-true _ _ (e2 .0); offset = eqb-true _ _ (e3 .0); whole = e3 .1 }
+
+-- each body begins where the last one ended, and the book ends with the third
+pub record Laid (s : List ℕ) : Type 0 where
+  pub first : ContentsEntry s 4 1 22 4 4096
+  pub second : ContentsEntry s 10 2 (endOf s 4) 5 2048
+  pub third : ContentsEntry s 16 3 (endOf s 10) 1 4096
+  pub ends : endOf s 16 ≡ length s
 
 pub laid : (s : List ℕ) → badContents s ≡ Nowhere → Laid s
 unfolding badContents
@@ -63,16 +73,7 @@ laid s e =
     let m1 = met (entryFits s 10 2 (endOf s 4) 5 2048) some-place (m0 .1) in
     let m2 = met (entryFits s 16 3 (endOf s 10) 1 4096) some-place (m1 .1) in
     let m3 = met (eqb (endOf s 16) (length s)) some-place (m2 .1) in
-    let f0 = fits s 4 1 22 4 4096 (m0 .0) in
-    let f2 = fits s 16 3 (endOf s 10) 1 4096 (m2 .0) in
-    record {
-      first = f0 .0;
-      second = fits s 10 2 (endOf s 4) 5 2048 (m1 .0) .0;
-      third = f2 .0;
-      ends = eqb-true _ _ (m3 .0);
-      first-whole = f0 .1;
-      third-whole = f2 .1;
-    }
+    record { first = fits s 4 1 22 4 4096 (m0 .0); second = fits s 10 2 (endOf s 4) 5 2048 (m1 .0); third = fits s 16 3 (endOf s 10) 1 4096 (m2 .0); ends = eqb-true _ _ (m3 .0) }
 
 -- the header and the bodies lie within the book
 pub record Inside (s : List ℕ) : Type 0 where

@@ -118,14 +118,14 @@ module _ {d n operations errors choices : ℕ} (s c : List ℕ) (e : readBook s 
       }
 
   room : 22 ≤ offsetOf s 16
-  room = omega (arith, lies .first, lies .second, lies .third)
+  room = omega (arith, lies .first .offset, lies .second .offset, lies .third .offset)
 
   -- the three bodies
   operations-part : partOf u 4 ≡ partOf s 4
-  operations-part = body-same begins 4 (omega (arith, room)) (omega (arith, lies .second, lies .third))
+  operations-part = body-same begins 4 (omega (arith, room)) (omega (arith, lies .second .offset, lies .third .offset))
 
   errors-part : partOf u 10 ≡ partOf s 10
-  errors-part = body-same begins 10 (omega (arith, room)) (omega (arith, lies .third))
+  errors-part = body-same begins 10 (omega (arith, room)) (omega (arith, lies .third .offset))
 
   choices-part : partOf u 16 ≡ c
   choices-part =

@@ -1,7 +1,8 @@
-// What the host software calls: layer, tableau test and the two runs, on numbers and byte slices.
+// What the host software calls: layer, tableau test, writer and the two runs, on numbers and byte slices.
 ghost use mathlib.Core.Path.{_≡_};
 ghost use Rattle.layer.specs.Layer.{layerNumber, layerLeaves};
 ghost use Rattle.validity.specs.Validity.{testNumber};
+ghost use Rattle.written.specs.Writer.{writeBook};
 ghost use Rattle.direct.specs.DirectBook.{directBook};
 ghost use Rattle.framed.specs.FrameBook.{frameBook};
 use framed::FrameAnswer;
@@ -21,6 +22,22 @@ pub extern "C" fn cagvost_test(t: &[u8], d: usize, n: usize) -> Answer
     ensures { λ r. ⌜ r ≡ record { number = testNumber d n (now (t .entry)); place = 0 } ⌝ }
 {
     validity::test(t, d, n)
+}
+
+// Writes the book of d, n and three bodies, or refuses by 2 to 8.
+#[no_mangle]
+pub extern "C" fn cagvost_write(
+    out: &mut [u8],
+    ops: &[u8],
+    errors: &[u8],
+    choices: &[u8],
+    d: usize,
+    n: usize,
+) -> Answer
+    ensures { λ r. ⌜ record { number = r .number; place = r .place; out = now (out .exit) }
+        ≡ writeBook d n (now (ops .entry)) (now (errors .entry)) (now (choices .entry)) (now (out .entry)) ⌝ }
+{
+    writer::write(out, ops, errors, choices, d, n)
 }
 
 // The direct run of a book from the lent tableau.

@@ -35,11 +35,11 @@ module _ (s : List ℕ) {d n operations errors choices : ℕ} (e : readBook s �
     lengths : badLengths (length (partOf s 4)) (length other) (length (partOf s 16)) ≡ Nowhere
     lengths =
         rw (
-          part-length s 4 (omega (arith, lies .second, lies .third, lies .ends)),
+          part-length s 4 (omega (arith, lies .second .offset, lies .third .offset, lies .ends)),
           part-length s 16 (omega (arith, lies .ends)),
-          lies .first-whole,
+          lies .first .whole,
           whole,
-          lies .third-whole,
+          lies .third .whole,
         )
 
     with-errors : readBook (bookOf d n (bodyOf s 1) other (bodyOf s 3)) ≡ at 6 (badError d n operations other) (accepted d n operations (length other / 5) choices)

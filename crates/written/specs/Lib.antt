@@ -1,2 +1,3 @@
 pub mod Written
+pub mod Writer
 pub mod Errorless

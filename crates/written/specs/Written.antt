@@ -1,8 +1,8 @@
 -- The book that d, n and three bodies make. The statements are proved in proofs/.
 use mathlib.Core.Path.{_≡_}
 use mathlib.Core.List.{List, [], _∷_, _++_}
-use Prim.Native.Nat.{ℕ, _+_, _/_, _%_}
-use lib.ListN.{length}
+use Prim.Native.Nat.{ℕ, _+_, _/_, _%_, _<_}
+use lib.ListN.{length, getD}
 use Rattle.modular.specs.Dimension.{listed}
 use Rattle.search.specs.declared.Place.{Place}
 use Rattle.search.specs.declared.Place.the-variants.{At, Nowhere}
@@ -57,3 +57,12 @@ pub record Back (s ops errors choices : List ℕ) : Type 0 where
 abbrev pub BodiesBack : Type 0
 BodiesBack = (d n : ℕ) (ops errors choices : List ℕ) (o e c : ℕ) → readBook (bookOf d n ops errors choices) ≡ accepted d n o e c
     → Back (bookOf d n ops errors choices) ops errors choices
+
+-- Every number of the list is a byte. A lent slice has this by its type.
+abbrev pub Bytes : List ℕ → Type 0
+Bytes s = (i : ℕ) → i < length s → getD s i 0 < 256
+
+-- It is the only one: an accepted book of bytes that has these d, n and bodies is that one, byte for byte.
+abbrev pub OnlyBook : Type 0
+OnlyBook = (d n : ℕ) (ops errors choices s : List ℕ) → Bytes s → (o e c : ℕ) → readBook s ≡ accepted d n o e c
+    → Back s ops errors choices → s ≡ bookOf d n ops errors choices

@@ -1,0 +1,115 @@
+-- `write` meets its contract.
+-- Assumes nothing.
+use mathlib.Core.Path.{sym, ap, _∙_}
+use native.Mathlib.Omega.{arith}
+use denote.Ref.{now}
+use lib.ListN.{length}
+use borrow.Author.Tests.{le-leb, lt-leb}
+use borrow.Author.Needs.{needs}
+use Rattle.body.specs.Body.{told}
+use Rattle.written.specs.Written.{bookOf}
+use Rattle.written.specs.Writer.{writeTold, writeBook}
+use Rattle.written.proofs.Read.{book-length, reads-written}
+use Rattle.writer.proofs.LaidOut.{Fits, fits}
+use Rattle.writer.proofs.write.Statement.{statement}
+use Rattle.writer.proofs.write.Tie as tie
+
+-- what is not refused by 2 to 7 fits
+fitting : (c : tie.After-enum-told) → let a = c .before .before .before .before .before .before .before .args in
+    Fits (a .d) (a .n) (now (a .ops)) (now (a .errors)) (now (a .choices))
+fitting c = fits _ _ _ _ _ (sym (c .before .before .read-parts .ensures) ∙ ap told (c .enum-told .given .1))
+
+read-parts-requires : tie.Need-read-parts-requires
+read-parts-requires c κs = search needs
+
+enum-known-reading : tie.Need-enum-known-reading
+enum-known-reading c = search needs
+
+wide-requires : tie.Need-wide-requires
+wide-requires c κs = search needs
+
+returns : tie.Need-returns
+unfolding writeBook writeTold
+returns c =
+    let r = c .before .before in
+    let p = r .before .before in
+    let a = p .before .before .before .before .before .args in
+    rw (reads-written (a .d) (a .n) (now (a .ops)) (now (a .errors)) (now (a .choices)), ← p .read-parts .ensures, r .reading .given .1, c .wide .ensures .0)
+
+enum-told : tie.Need-enum-told
+enum-told c = search needs
+
+add-place : tie.Need-add-place
+add-place c = search needs
+
+add-place-2 : tie.Need-add-place-2
+add-place-2 c = let f = fitting c in omega (arith, f .operations, f .errors-fit)
+
+add-place-3 : tie.Need-add-place-3
+add-place-3 c = let f = fitting c in omega (arith, f .operations, f .errors-fit, f .choices-fit)
+
+returns-2 : tie.Need-returns-2
+unfolding writeBook writeTold
+returns-2 c =
+    let e = c .before in
+    let p = e .before .before in
+    let a = p .before .before .before .before .before .args in
+    rw (
+      reads-written (a .d) (a .n) (now (a .ops)) (now (a .errors)) (now (a .choices)),
+      ← p .read-parts .ensures,
+      e .enum-told .given .1,
+      book-length (a .d) (a .n) (now (a .ops)) (now (a .errors)) (now (a .choices)),
+      lt-leb _ _ (c .if1 .taken),
+    )
+
+cast-lay-book : tie.Need-cast-lay-book
+cast-lay-book c = omega (arith, fitting (c .before .before) .dimension-byte)
+
+cast-lay-book-2 : tie.Need-cast-lay-book-2
+cast-lay-book-2 c = omega (arith, fitting (c .before .before) .qudits-byte)
+
+lay-book-requires : tie.Need-lay-book-requires
+lay-book-requires c κs =
+    let f = fitting (c .before .before) in
+    (c .before .if1 .left, f .operations, f .errors-fit, f .choices-fit)
+
+same-length : tie.Need-same-length
+same-length c = search needs
+
+returns-3 : tie.Need-returns-3
+unfolding writeBook writeTold
+returns-3 c =
+    let f = c .before .before in
+    let l = f .before .before in
+    let e = l .before in
+    let p = e .before .before in
+    let a = p .before .before .before .before .before .args in
+    let s = bookOf (a .d) (a .n) (now (a .ops)) (now (a .errors)) (now (a .choices)) in
+    let size = book-length (a .d) (a .n) (now (a .ops)) (now (a .errors)) (now (a .choices)) in
+    rw (
+      reads-written (a .d) (a .n) (now (a .ops)) (now (a .errors)) (now (a .choices)),
+      ← p .read-parts .ensures,
+      e .enum-told .given .1,
+      f .lay-book .ensures,
+      le-leb (length s) (length (now (a .out))) (omega (arith, size, l .if1 .left)),
+      size,
+    )
+
+pub write-spec : {M : Type 1} → statement M
+write-spec =
+    tie.close
+    (tie.spec
+    read-parts-requires
+    enum-known-reading
+    wide-requires
+    returns
+    enum-told
+    add-place
+    add-place-2
+    add-place-3
+    returns-2
+    cast-lay-book
+    cast-lay-book-2
+    lay-book-requires
+    same-length
+    returns-3)
