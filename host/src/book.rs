@@ -1,7 +1,8 @@
 //! Shot books: operations, errors and choices as Rust values, and their bytes.
 //!
 //! This is plain convenience. It refuses nothing: whatever is put into a [`Book`] comes out of
-//! [`Book::to_bytes`], and the run that reads those bytes says what is wrong with them.
+//! [`Book::to_bytes`], and the run that reads those bytes says what is wrong with them. For a book
+//! that is checked before it is run, hand [`Book::bodies`] to [`write_book`](crate::write_book).
 
 /// The dimensions that a book may have.
 pub const DIMENSIONS: [u8; 10] = [3, 5, 7, 11, 13, 17, 19, 23, 29, 31];
@@ -210,14 +211,38 @@ impl Book {
         self.operations.iter().filter(measures).count()
     }
 
-    /// The bytes of the book.
+    /// The bytes of the three bodies: operations, errors and choices.
+    ///
+    /// ```
+    /// use cagvost::book::{Book, Operation};
+    ///
+    /// let mut book = Book::new(3, 2);
+    /// book.operation(Operation::Fourier { q: 1 }).strike(1, 2, 0).measure(1, 2);
+    /// let [operations, errors, choices] = book.bodies();
+    /// assert_eq!(operations, [0, 1, 0, 0, 6, 1, 0, 0]);
+    /// assert_eq!(errors, [1, 0, 1, 2, 0]);
+    /// assert_eq!(choices, [2]);
+    ///
+    /// let mut bytes = vec![0; cagvost::book_len(&operations, &errors, &choices)];
+    /// cagvost::write_book(3, 2, &operations, &errors, &choices, &mut bytes)?;
+    /// assert_eq!(bytes, book.to_bytes());
+    /// # Ok::<(), cagvost::Refusal>(())
+    /// ```
+    pub fn bodies(&self) -> [Vec<u8>; 3] {
+        [
+            self.operations.iter().flat_map(|o| o.to_bytes()).collect(),
+            self.errors.iter().flat_map(|e| e.to_bytes()).collect(),
+            self.choices.clone(),
+        ]
+    }
+
+    /// The bytes of the book, unchecked: [`write_book`](crate::write_book) writes the same ones, but
+    /// for a book that a run accepts and for no other.
     ///
     /// A body that is too long for the two bytes of its length is written with the length 65,535,
     /// which no reader accepts, rather than with one cut to two bytes.
     pub fn to_bytes(&self) -> Vec<u8> {
-        let operations: Vec<u8> = self.operations.iter().flat_map(|o| o.to_bytes()).collect();
-        let errors: Vec<u8> = self.errors.iter().flat_map(|e| e.to_bytes()).collect();
-        let bodies = [operations, errors, self.choices.clone()];
+        let bodies = self.bodies();
         let mut bytes = vec![81, self.d, self.n, 3];
         let mut offset = 22;
         for (kind, body) in (1..).zip(&bodies) {

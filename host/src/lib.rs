@@ -9,8 +9,9 @@
 //! # Running a book
 //!
 //! A *shot book* holds a circuit, the errors that strike it and one choice for each measurement;
-//! [`book::Book`] writes one. A run starts from a tableau that you lend, usually the zero tableau
-//! (all qudits at level 0) laid by [`layer`], and leaves the final one in its place.
+//! [`book::Book`] builds one, and [`write_book`] makes one of bytes. A run starts from a tableau
+//! that you lend, usually the zero tableau (all qudits at level 0) laid by [`layer`], and leaves the
+//! final one in its place.
 //!
 //! ```
 //! // Two qutrits: Fourier on 0, SUM from 0 to 1, an X error on 1, then both are measured.
@@ -56,6 +57,13 @@
 //! without errors ends with the same stabilizer set. It says nothing of the results, which an error
 //! may have changed on the way. Destabilizer shifts are written but not judged.
 //!
+//! # Writing a book
+//!
+//! Software that holds operations, errors and choices as bytes has [`write_book`] lay the table of
+//! contents: it takes these three bodies with d and n, and writes the only book that a run accepts
+//! for them. What a run would refuse in that book it refuses itself, with the same number and place,
+//! so that a book that it wrote is never refused by 1 to 7.
+//!
 //! # Buffers
 //!
 //! - The *tableau* has 2n rows of 2n + 1 bytes: n X powers, n Z powers and a phase. Destabilizers
@@ -64,6 +72,8 @@
 //!   it was free; [`results_len`] is their size.
 //! - The *shifts* of a frame run have a byte for each row, and its *frame* n X powers and n Z
 //!   powers; [`shifts_len`] and [`frame_len`] are their sizes.
+//! - The *book* that the writer fills has 22 bytes and then the three bodies; [`book_len`] is its
+//!   size.
 //!
 //! A buffer may be longer than needed: bytes past the needed ones are kept.
 //!
@@ -81,9 +91,11 @@ mod frame;
 #[allow(unsafe_code)]
 mod library;
 mod refusal;
+mod write;
 
 pub use frame::{FrameRun, Verdict, frame_len, frame_run, shifts_len};
 pub use refusal::Refusal;
+pub use write::{book_len, write_book};
 
 use library::Answer;
 

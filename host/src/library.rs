@@ -50,6 +50,18 @@ unsafe extern "C" {
         frame: *mut u8,
         frame_len: usize,
     ) -> FrameAnswer;
+    fn cagvost_write(
+        out: *mut u8,
+        out_len: usize,
+        ops: *const u8,
+        ops_len: usize,
+        errors: *const u8,
+        errors_len: usize,
+        choices: *const u8,
+        choices_len: usize,
+        d: usize,
+        n: usize,
+    ) -> Answer;
 }
 
 pub(crate) fn layer(tableau: &mut [u8], d: usize, n: usize) -> Answer {
@@ -96,6 +108,31 @@ pub(crate) fn frame_run(
             shifts.len(),
             frame.as_mut_ptr(),
             frame.len(),
+        )
+    }
+}
+
+pub(crate) fn write(
+    out: &mut [u8],
+    operations: &[u8],
+    errors: &[u8],
+    choices: &[u8],
+    d: usize,
+    n: usize,
+) -> Answer {
+    // SAFETY: see the head of this module; the library does not write the bodies.
+    unsafe {
+        cagvost_write(
+            out.as_mut_ptr(),
+            out.len(),
+            operations.as_ptr(),
+            operations.len(),
+            errors.as_ptr(),
+            errors.len(),
+            choices.as_ptr(),
+            choices.len(),
+            d,
+            n,
         )
     }
 }
@@ -154,5 +191,22 @@ mod tests {
         assert_eq!(run(&book, &mut []), (8, 0, 0));
         book.choice(0);
         assert_eq!(run(&book, &mut [0; 2]), (7, 1, 0));
+    }
+
+    #[test]
+    fn a_writer_succeeds_with_0_and_the_bytes_of_the_book() {
+        let numbers = |book: &Book, room: usize| {
+            let [operations, errors, choices] = book.bodies();
+            let mut out = vec![0; room];
+            let answer = write(&mut out, &operations, &errors, &choices, 3, 1);
+            (answer.number, answer.place)
+        };
+        let mut book = Book::new(3, 1);
+        assert_eq!(numbers(&book, 22), (0, 22));
+        book.operation(Operation::Fourier { q: 0 })
+            .strike(0, 1, 2)
+            .measure(0, 2);
+        assert_eq!(numbers(&book, 36), (0, 36));
+        assert_eq!(numbers(&book, 50), (0, 36));
     }
 }

@@ -23,9 +23,11 @@ pub enum Refusal {
     Dimension,
     /// 3: the number of qudits is not from 1 to 64.
     QuditCount,
-    /// 4: a wrong entry of the book's table of contents.
+    /// 4: a wrong entry of the book's table of contents. The writer is handed no table: by 4 it
+    /// refuses a body that is not of whole entries or has too many.
     Contents {
-        /// The first wrong entry, from 0 to 2, or 3 if only the book's end is wrong.
+        /// The first wrong entry, from 0 to 2 (operations, errors, choices), or 3 if only the book's
+        /// end is wrong. The writer names the first such body, and never 3.
         entry: usize,
     },
     /// 5: an entry is not one of the seven operations.
@@ -90,7 +92,7 @@ impl Refusal {
                 "the book does not end where its table of contents says"
             }
             Refusal::Contents { .. } => {
-                "this entry of the table of contents has a wrong kind, zero byte, offset or length"
+                "this body (0 operations, 1 errors, 2 choices) is not of whole entries or has too many, or its entry of the table of contents has a wrong kind, zero byte or offset"
             }
             Refusal::Operation { .. } => {
                 "this entry is not one of the seven operations on the book's qudits"

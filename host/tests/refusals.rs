@@ -9,11 +9,8 @@ use cagvost::book::{Book, DIMENSIONS, MAX_CHOICES, MAX_ERRORS, MAX_OPERATIONS};
 use cagvost::book::{Operation, WeylError};
 use common::frames::{Buffers, carry_both};
 use common::plain::{Told, is_valid, read};
-use common::{PAPER_BOOK, Rng, Shape, UNWRITTEN, layer_both, run_both, test_both};
-use common::{draw_book, draw_tableau, with_tail, zero_tableau};
-
-/// Where the bodies of a book begin.
-const BODIES: usize = 22;
+use common::{BODIES, PAPER_BOOK, Rng, Shape, UNWRITTEN, layer_both, run_both, test_both};
+use common::{counted, draw_book, draw_tableau, with_byte, with_tail, zero_tableau};
 
 /// What a run with good buffers says to the book.
 fn answer(book: &[u8]) -> Told {
@@ -24,13 +21,6 @@ fn answer(book: &[u8]) -> Told {
         .unwrap_or(1);
     let results = vec![UNWRITTEN; 2 * MAX_CHOICES];
     run_both(book, &zero_tableau(n), &results).told
-}
-
-/// The book with another byte.
-fn with_byte(book: &[u8], place: usize, byte: u8) -> Vec<u8> {
-    let mut damaged = book.to_vec();
-    damaged[place] = byte;
-    damaged
 }
 
 /// A book with one operation, as bytes.
@@ -115,18 +105,10 @@ fn refusal_4_contents() {
     assert_eq!(answer(&[book, vec![0]].concat()), (4, 3));
 }
 
-/// A book with so many operations (all measurements), errors and choices.
-fn counted(operations: usize, errors: usize, choices: usize) -> Vec<u8> {
-    let mut book = Book::new(3, 1);
-    (0..errors).for_each(|_| _ = book.strike(0, 1, 2));
-    (0..operations).for_each(|_| _ = book.operation(Operation::Measure { q: 0 }));
-    (0..choices).for_each(|_| _ = book.choice(2));
-    book.to_bytes()
-}
-
 #[test]
 fn the_longest_book_passes_and_longer_ones_are_refused_by_4() {
     let (o, e, c) = (MAX_OPERATIONS, MAX_ERRORS, MAX_CHOICES);
+    let counted = |o, e, c| counted(o, e, c).to_bytes();
     let longest = counted(o, e, c);
     assert_eq!(longest.len(), 30_742);
     assert_eq!(answer(&longest), (0, c));
@@ -547,7 +529,7 @@ fn random_bytes_as_bodies_and_tableaus() {
     let mut rng = Rng(80);
     for _ in 0..20_000 {
         let (operations, errors, choices) = (rng.below(4), rng.below(3), rng.below(3));
-        let mut book = counted(operations, errors, choices);
+        let mut book = counted(operations, errors, choices).to_bytes();
         book[2] = 1 + rng.byte_below(3);
         let end = 2 + rng.byte_below(8);
         book[BODIES..]

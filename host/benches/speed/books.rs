@@ -17,6 +17,8 @@ pub enum Mix {
     /// 1,024 times three gates and the measurement of one of the last eight qudits. It is free: the
     /// set had Z on that qudit since it was last measured, and Fourier makes this X.
     Measuring,
+    /// Measurements alone, so that there are 4,096 choices: the longest book.
+    Measurements,
 }
 
 /// A book of 4,096 operations and 2,048 errors, one before every second operation.
@@ -33,6 +35,7 @@ pub fn full(mix: Mix, d: u8, n: u8) -> Book {
             Mix::Gates => _ = book.operation(draw_gate(&mut rng, d, n)),
             Mix::Multipliers => _ = book.operation(multiplier(&mut rng, d, n)),
             Mix::Measuring => measuring(&mut rng, k, &mut book),
+            Mix::Measurements => _ = book.measure(rng.byte_below(n), rng.byte_below(d)),
         }
     }
     book

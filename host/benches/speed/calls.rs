@@ -1,34 +1,46 @@
 //! The calls that are timed: each by Cagvost, by the tuned Rust and by the plain Rust.
 
 use crate::common::frames::Buffers;
-use crate::common::{UNWRITTEN, plain};
+use crate::common::{UNWRITTEN, plain, slices};
 use crate::tuned;
 use cagvost::Refusal;
 use cagvost::book::Book;
 
-/// A book and the buffers before it. A direct run leaves the last two, and the tableau test, which
-/// takes the sizes and the tableau alone, leaves all.
+/// What a call may write: the buffers of a frame run, of which a direct run leaves the last two, and
+/// room for the book that the writer writes. The tableau test leaves all.
+#[derive(Clone, PartialEq, Eq)]
+pub struct Lent {
+    pub run: Buffers,
+    pub written: Vec<u8>,
+}
+
+/// A book, also by its bodies, and what is lent with it. The writer takes the sizes and the bodies,
+/// the tableau test the sizes and the tableau.
 pub struct Job {
     pub d: usize,
     pub n: usize,
+    pub bodies: [Vec<u8>; 3],
     pub book: Vec<u8>,
-    pub before: Buffers,
+    pub before: Lent,
 }
 
 impl Job {
     pub fn new(book: &Book, tableau: Vec<u8>) -> Job {
         let n = usize::from(book.qudits());
-        let before = Buffers {
+        let bytes = book.to_bytes();
+        let run = Buffers {
             tableau,
             results: vec![UNWRITTEN; cagvost::results_len(book.measurements())],
             shifts: vec![UNWRITTEN; cagvost::shifts_len(n)],
             frame: vec![UNWRITTEN; cagvost::frame_len(n)],
         };
+        let written = vec![UNWRITTEN; bytes.len()];
         Job {
             d: book.dimension().into(),
             n,
-            book: book.to_bytes(),
-            before,
+            bodies: book.bodies(),
+            book: bytes,
+            before: Lent { run, written },
         }
     }
 }
@@ -36,44 +48,60 @@ impl Job {
 /// A number, its place and, from the frame run, the verdict.
 pub type Told = (usize, usize, usize);
 
-pub type Call = fn(&Job, &mut Buffers) -> Told;
+pub type Call = fn(&Job, &mut Lent) -> Told;
 
 /// The same call by Cagvost, by the tuned Rust and by the plain Rust.
 pub type Columns = [Call; 3];
 
 pub const TEST: Columns = [
-    |job, b| numbers(cagvost::test_tableau(&b.tableau, job.d, job.n).map(|()| 0)),
-    |job, b| widen(tuned::test(&b.tableau, job.d, job.n)),
-    |job, b| widen(plain::test(&b.tableau, job.d, job.n)),
+    |job, lent| numbers(cagvost::test_tableau(&lent.run.tableau, job.d, job.n).map(|()| 0)),
+    |job, lent| widen(tuned::test(&lent.run.tableau, job.d, job.n)),
+    |job, lent| widen(plain::test(&lent.run.tableau, job.d, job.n)),
 ];
 
 pub const DIRECT: Columns = [
-    |job, b| {
-        let told = cagvost::direct_run(&job.book, &mut b.tableau, &mut b.results);
+    |job, Lent { run, .. }| {
+        let told = cagvost::direct_run(&job.book, &mut run.tableau, &mut run.results);
         numbers(told)
     },
-    |job, b| {
-        let told = tuned::direct_run(&job.book, &mut b.tableau, &mut b.results);
+    |job, Lent { run, .. }| {
+        let told = tuned::direct_run(&job.book, &mut run.tableau, &mut run.results);
         widen(told)
     },
-    |job, b| {
-        let told = plain::direct_run(&job.book, &mut b.tableau, &mut b.results);
+    |job, Lent { run, .. }| {
+        let told = plain::direct_run(&job.book, &mut run.tableau, &mut run.results);
         widen(told)
     },
 ];
 
 pub const FRAME: Columns = [
-    |job, b| b.by_library(&job.book),
-    |job, b| {
+    |job, lent| lent.run.by_library(&job.book),
+    |job, Lent { run, .. }| {
         tuned::frame_run(
             &job.book,
-            &mut b.tableau,
-            &mut b.results,
-            &mut b.shifts,
-            &mut b.frame,
+            &mut run.tableau,
+            &mut run.results,
+            &mut run.shifts,
+            &mut run.frame,
         )
     },
-    |job, b| b.by_plain(&job.book),
+    |job, lent| lent.run.by_plain(&job.book),
+];
+
+pub const WRITE: Columns = [
+    |job, lent| {
+        let [operations, errors, choices] = slices(&job.bodies);
+        let (d, n, out) = (job.d, job.n, &mut lent.written);
+        numbers(cagvost::write_book(d, n, operations, errors, choices, out))
+    },
+    |job, lent| {
+        let bodies = slices(&job.bodies);
+        widen(tuned::write(bodies, job.d, job.n, &mut lent.written))
+    },
+    |job, lent| {
+        let bodies = slices(&job.bodies);
+        widen(plain::write(bodies, job.d, job.n, &mut lent.written))
+    },
 ];
 
 fn numbers(told: Result<usize, Refusal>) -> Told {

@@ -13,7 +13,7 @@ mod tuned;
 
 use books::{Mix, certain_tableau, dense_tableau};
 use cagvost::book::{Book, Operation};
-use calls::{Columns, DIRECT, FRAME, Job, TEST};
+use calls::{Columns, DIRECT, FRAME, Job, TEST, WRITE};
 use common::zero_tableau;
 use std::thread;
 use std::time::{Duration, Instant};
@@ -41,6 +41,7 @@ fn main() {
     full_books();
     growth();
     single_operations();
+    writing();
     small_stack();
     println!("\nAll of it took {:.0} s.", begin.elapsed().as_secs_f64());
 }
@@ -78,10 +79,10 @@ fn full_job(mix: Mix, d: u8, n: u8) -> Job {
 
 /// How many measurements of a job are free, and how many are certain.
 fn kinds(job: &Job) -> (usize, usize) {
-    let (_, left) = leaves(job, DIRECT[1]);
-    let marks = left.results.chunks_exact(2).map(|result| result[1]);
+    let results = leaves(job, DIRECT[1]).1.run.results;
+    let marks = results.chunks_exact(2).map(|result| result[1]);
     let free = marks.filter(|&mark| mark == 1).count();
-    (free, left.results.len() / 2 - free)
+    (free, results.len() / 2 - free)
 }
 
 fn full_books() {
@@ -182,6 +183,23 @@ fn gates() -> [(&'static str, Operation); 6] {
         ("swap", Operation::Swap { c, t }),
         ("multiplier", Operation::Multiplier { q, u: 2 }),
     ]
+}
+
+fn writing() {
+    head(
+        "Writing a full book: 64 qudits, 4,096 operations, 2,048 errors.",
+        "µs per call",
+    );
+    let mixes = [(Mix::Mixed, "mixed"), (Mix::Measurements, "measurements")];
+    for (mix, name) in mixes {
+        for d in DIMENSIONS {
+            // The writer takes no tableau.
+            let job = Job::new(&books::full(mix, d, QUDITS), Vec::new());
+            let label = format!("write  d {d:<2} {name:<12} {} B", job.book.len());
+            let times = take(&job, &WRITE, FULL_BOOK);
+            line(&label, Unit::MicrosPerCall, &times);
+        }
+    }
 }
 
 /// Does full runs of the package on a small stack. If it were too small, the process would abort.

@@ -1,7 +1,6 @@
 //! Timing by turns, and the table.
 
-use crate::calls::{Call, Columns, Job, Told};
-use crate::common::frames::Buffers;
+use crate::calls::{Call, Columns, Job, Lent, Told};
 use std::hint::black_box;
 use std::time::{Duration, Instant};
 
@@ -72,15 +71,16 @@ fn rounds<const N: usize>(
 }
 
 /// Copies bytes into buffers of the same lengths, without new memory.
-fn refill(buffers: &mut Buffers, from: &Buffers) {
-    buffers.tableau.copy_from_slice(&from.tableau);
-    buffers.results.copy_from_slice(&from.results);
-    buffers.shifts.copy_from_slice(&from.shifts);
-    buffers.frame.copy_from_slice(&from.frame);
+fn refill(buffers: &mut Lent, from: &Lent) {
+    buffers.run.tableau.copy_from_slice(&from.run.tableau);
+    buffers.run.results.copy_from_slice(&from.run.results);
+    buffers.run.shifts.copy_from_slice(&from.run.shifts);
+    buffers.run.frame.copy_from_slice(&from.run.frame);
+    buffers.written.copy_from_slice(&from.written);
 }
 
 /// What the columns agree in: the numbers and every byte. Each is called once.
-pub fn compare(job: &Job, columns: &Columns) -> (Told, Buffers) {
+pub fn compare(job: &Job, columns: &Columns) -> (Told, Lent) {
     let [cagvost, tuned, plain] = columns.map(|call| leaves(job, call));
     assert!(cagvost.0 == plain.0 && tuned.0 == plain.0, "numbers");
     assert!(cagvost.1 == plain.1 && tuned.1 == plain.1, "bytes");
@@ -88,7 +88,7 @@ pub fn compare(job: &Job, columns: &Columns) -> (Told, Buffers) {
 }
 
 /// What a call tells and leaves.
-pub fn leaves(job: &Job, call: Call) -> (Told, Buffers) {
+pub fn leaves(job: &Job, call: Call) -> (Told, Lent) {
     let mut buffers = job.before.clone();
     (call(job, &mut buffers), buffers)
 }

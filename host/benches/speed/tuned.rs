@@ -15,6 +15,8 @@
 //! - The tables are made once for each run, one of all inverses with them.
 //! - Pairings are made of powers from −15 to 15, so that their sums fit 16 bits with a sign, two at
 //!   a time, and tested for divisibility without a division.
+//! - Operations and choices are tested without a branch, several at a time. If one is bad, they are
+//!   gone through again to find the first.
 
 /// A returned number and its place.
 type Told = (usize, usize);
@@ -457,10 +459,9 @@ fn read(book: &[u8]) -> Result<Book<'_>, Told> {
     }
     let (d, n) = (book[1], usize::from(book[2]));
     check_sizes(d.into(), n)?;
-    let [operations, errors, choices] = bodies(book)?;
-    check_operations(d, n, operations)?;
-    check_errors(d, n, operations.len() / 4, errors)?;
-    check_choices(d, operations, choices)?;
+    let bodies = bodies(book)?;
+    check_bodies(d, n, bodies)?;
+    let [operations, errors, choices] = bodies;
     Ok(Book {
         d,
         n,
@@ -470,13 +471,18 @@ fn read(book: &[u8]) -> Result<Book<'_>, Told> {
     })
 }
 
-fn bodies(book: &[u8]) -> Result<[&[u8]; 3], Told> {
+/// Whether body i may have this length: whole entries, and not too many.
+fn is_length(i: usize, length: usize) -> bool {
     let (sizes, limits) = ([4, 5, 1], [4096, 2048, 4096]);
+    length.is_multiple_of(sizes[i]) && length / sizes[i] <= limits[i]
+}
+
+fn bodies(book: &[u8]) -> Result<[&[u8]; 3], Told> {
     let mut ends = [22; 4];
     for (i, entry) in book[4..22].chunks_exact(6).enumerate() {
         let (offset, length) = (two_bytes(entry, 2), two_bytes(entry, 4));
         let named = usize::from(entry[0]) == i + 1 && entry[1] == 0 && offset == ends[i];
-        if !named || length % sizes[i] != 0 || length / sizes[i] > limits[i] {
+        if !named || !is_length(i, length) {
             return Err((4, i));
         }
         ends[i + 1] = offset + length;
@@ -487,23 +493,36 @@ fn bodies(book: &[u8]) -> Result<[&[u8]; 3], Told> {
     Ok([0, 1, 2].map(|i| &book[ends[i]..ends[i + 1]]))
 }
 
-fn is_operation(d: u8, n: usize, entry: &[u8]) -> bool {
-    let (first, second) = (usize::from(entry[1]), usize::from(entry[2]));
-    let rest = match entry[0] {
-        0 | 1 | 6 => second == 0 && entry[3] == 0,
-        2..=4 => second < n && second != first && entry[3] == 0,
-        5 => second == 0 && entry[3] != 0 && entry[3] < d,
-        _ => false,
-    };
-    first < n && rest
+fn is_operation(d: u32, n: u32, entry: &[u8]) -> bool {
+    let entry = code_first(entry);
+    let [code, q, t, u] = [0, 8, 16, 24].map(|by| (entry >> by) & 255);
+    let (two, many) = ((code > 1) & (code < 5), code == 5);
+    let second = (two & (t < n) & (t != q)) | (!two & (t == 0));
+    let third = (many & (u > 0) & (u < d)) | (!many & (u == 0));
+    (code < 7) & (q < n) & second & third
+}
+
+/// The bytes of an operation as one number, the code in the lowest bits.
+fn code_first(entry: &[u8]) -> u32 {
+    u32::from_le_bytes([entry[0], entry[1], entry[2], entry[3]])
+}
+
+/// Refusals 5 to 7.
+fn check_bodies(d: u8, n: usize, [operations, errors, choices]: [&[u8]; 3]) -> Result<(), Told> {
+    check_operations(d, n, operations)?;
+    check_errors(d, n, operations.len() / 4, errors)?;
+    check_choices(d, operations, choices)
 }
 
 fn check_operations(d: u8, n: usize, body: &[u8]) -> Result<(), Told> {
+    let is_good = |entry: &[u8]| is_operation(d.into(), n as u32, entry);
     let mut entries = body.chunks_exact(4);
-    match entries.position(|entry| !is_operation(d, n, entry)) {
-        Some(index) => Err((5, index)),
-        None => Ok(()),
+    let all = entries.clone();
+    if all.fold(true, |good, entry| good & is_good(entry)) {
+        return Ok(());
     }
+    let first = entries.position(|entry| !is_good(entry));
+    Err((5, first.expect("one is bad")))
 }
 
 fn check_errors(d: u8, n: usize, operations: usize, body: &[u8]) -> Result<(), Told> {
@@ -521,14 +540,16 @@ fn check_errors(d: u8, n: usize, operations: usize, body: &[u8]) -> Result<(), T
 
 fn check_choices(d: u8, operations: &[u8], choices: &[u8]) -> Result<(), Told> {
     let entries = operations.chunks_exact(4);
-    let measurements = entries.filter(|entry| entry[0] == 6).count();
+    let measures = entries.map(|entry| u32::from(code_first(entry) & 255 == 6));
+    let measurements = measures.sum::<u32>() as usize;
     if choices.len() != measurements {
         return Err((7, choices.len().min(measurements)));
     }
-    match choices.iter().position(|&choice| choice >= d) {
-        Some(index) => Err((7, index)),
-        None => Ok(()),
+    if choices.iter().fold(0, |most, &x| x.max(most)) < d {
+        return Ok(());
     }
+    let first = choices.iter().position(|&choice| choice >= d);
+    Err((7, first.expect("one is bad")))
 }
 
 /// Takes the next error off the body, if its place is k.
@@ -557,6 +578,45 @@ pub fn test(tableau: &[u8], d: usize, n: usize) -> Told {
         Some(rows) if !is_valid(d as u8, n, rows) => (9, 0),
         Some(_) => (0, 0),
     }
+}
+
+/// Writes the book of three bodies.
+pub fn write(bodies: [&[u8]; 3], d: usize, n: usize, out: &mut [u8]) -> Told {
+    match check_all(bodies, d, n, out) {
+        Ok(out) => (0, lay(bodies, d as u8, n as u8, out)),
+        Err(told) => told,
+    }
+}
+
+/// The part of the buffer that the book fills, or a refusal.
+fn check_all<'a>(
+    bodies: [&[u8]; 3],
+    d: usize,
+    n: usize,
+    out: &'a mut [u8],
+) -> Result<&'a mut [u8], Told> {
+    check_sizes(d, n)?;
+    if let Some(i) = (0..3).find(|&i| !is_length(i, bodies[i].len())) {
+        return Err((4, i));
+    }
+    check_bodies(d as u8, n, bodies)?;
+    let length = 22 + bodies.map(<[u8]>::len).iter().sum::<usize>();
+    out.get_mut(..length).ok_or((8, 0))
+}
+
+/// Fills the buffer with the book of good bodies. Its length.
+fn lay(bodies: [&[u8]; 3], d: u8, n: u8, out: &mut [u8]) -> usize {
+    out[..4].copy_from_slice(&[81, d, n, 3]);
+    let mut offset = 22;
+    for (i, body) in bodies.into_iter().enumerate() {
+        let [low, high] = (offset as u16).to_le_bytes();
+        let [least, most] = (body.len() as u16).to_le_bytes();
+        let entry = [i as u8 + 1, 0, low, high, least, most];
+        out[4 + 6 * i..10 + 6 * i].copy_from_slice(&entry);
+        out[offset..offset + body.len()].copy_from_slice(body);
+        offset += body.len();
+    }
+    offset
 }
 
 /// The book and the rows to run it on, or a refusal.

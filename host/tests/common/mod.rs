@@ -8,9 +8,12 @@ pub mod plain;
 use cagvost::Refusal;
 use cagvost::book::{Book, DIMENSIONS, Operation, WeylError};
 
-/// A byte that no call writes: results, marks, shifts, powers and phases are below 31. Buffers are
-/// filled with it before a call, so that a byte left unwritten shows.
+/// A byte that no call but the writer writes: results, marks, shifts, powers and phases are below
+/// 31. Buffers are filled with it before a call, so that a byte left unwritten shows.
 pub const UNWRITTEN: u8 = 255;
+
+/// Where the bodies of a book begin.
+pub const BODIES: usize = 22;
 
 /// The 45-byte book of the specification.
 pub const PAPER_BOOK: [u8; 45] = [
@@ -29,6 +32,22 @@ pub fn paper_book() -> Book {
         .measure(1, 0);
     assert_eq!(book.to_bytes(), PAPER_BOOK);
     book
+}
+
+/// A book with so many operations (all measurements), errors and choices.
+pub fn counted(operations: usize, errors: usize, choices: usize) -> Book {
+    let mut book = Book::new(3, 1);
+    (0..errors).for_each(|_| _ = book.strike(0, 1, 2));
+    (0..operations).for_each(|_| _ = book.operation(Operation::Measure { q: 0 }));
+    (0..choices).for_each(|_| _ = book.choice(2));
+    book
+}
+
+/// The book with another byte.
+pub fn with_byte(book: &[u8], place: usize, byte: u8) -> Vec<u8> {
+    let mut damaged = book.to_vec();
+    damaged[place] = byte;
+    damaged
 }
 
 // ---- Factors
@@ -320,4 +339,28 @@ pub fn test_both(tableau: &[u8], d: usize, n: usize) -> plain::Told {
     assert_eq!(answer, plain::test(tableau, d, n), "test of d {d} n {n}");
     assert!(lent == tableau, "the test wrote the tableau");
     answer
+}
+
+/// The three bodies as slices.
+pub fn slices(bodies: &[Vec<u8>; 3]) -> [&[u8]; 3] {
+    bodies.each_ref().map(Vec::as_slice)
+}
+
+/// Writes the book of three bodies on a copy of the buffer by both, which must agree in each number
+/// and byte. No body may change, a refusal must leave the buffer, and a success what is past the
+/// book.
+pub fn write_both(bodies: &[Vec<u8>; 3], d: usize, n: usize, out: &[u8]) -> (plain::Told, Vec<u8>) {
+    let lent = bodies.clone();
+    let (mut by_library, mut by_plain) = (out.to_vec(), out.to_vec());
+    let [operations, errors, choices] = slices(&lent);
+    let written = cagvost::write_book(d, n, operations, errors, choices, &mut by_library);
+    let answer = told(written);
+    let expected = plain::write(slices(bodies), d, n, &mut by_plain);
+    assert_eq!(answer, expected, "d {d} n {n} of {bodies:02x?}");
+    assert!(by_library == by_plain, "bytes of d {d} n {n} {bodies:02x?}");
+    assert!(lent == *bodies, "a body was written: {bodies:02x?}");
+    let filled = if answer.0 == 0 { answer.1 } else { 0 };
+    let kept = by_library[filled..] == out[filled..];
+    assert!(kept, "{answer:?} changed bytes from {filled} on");
+    (answer, by_library)
 }

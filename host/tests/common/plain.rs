@@ -358,7 +358,7 @@ fn two_bytes(bytes: &[u8], i: usize) -> usize {
 }
 
 /// The three bodies, or refusal 4.
-fn read_contents(book: &[u8]) -> Result<[&[u8]; 3], Told> {
+pub fn read_contents(book: &[u8]) -> Result<[&[u8]; 3], Told> {
     let (sizes, limits) = ([4, 5, 1], [4096, 2048, 4096]);
     let mut ends = [22; 4];
     for i in 0..3 {
@@ -415,7 +415,39 @@ fn read_choices(d: i64, measurements: usize, body: &[u8]) -> Result<Vec<i64>, To
     }
 }
 
+/// The bytes that these bodies make as a book, accepted or not.
+///
+/// A number that does not fit stands there as the largest that does, and is refused as it must be:
+/// 255 is no dimension and no number of qudits, and 65,535 bytes are too many for every body. An
+/// offset that does not fit comes after such a body, which is refused first.
+pub fn book_of(bodies: [&[u8]; 3], d: usize, n: usize) -> Vec<u8> {
+    let mut book = vec![81, d.min(255) as u8, n.min(255) as u8, 3];
+    let mut offset = 22;
+    for (kind, body) in (1..).zip(bodies) {
+        book.extend([kind, 0]);
+        for number in [offset, body.len()].map(|number| number.min(65_535)) {
+            book.extend([(number % 256) as u8, (number / 256) as u8]);
+        }
+        offset += body.len();
+    }
+    book.extend(bodies.concat());
+    book
+}
+
 // ---- Calls
+
+/// Writes a book: its bytes are made first, and the reader judges them.
+pub fn write(bodies: [&[u8]; 3], d: usize, n: usize, out: &mut [u8]) -> Told {
+    let book = book_of(bodies, d, n);
+    if let Err(told) = read(&book) {
+        return told;
+    }
+    if out.len() < book.len() {
+        return (8, 0);
+    }
+    out[..book.len()].copy_from_slice(&book);
+    (0, book.len())
+}
 
 /// Lays the zero tableau.
 pub fn layer(tableau: &mut [u8], d: usize, n: usize) -> Told {

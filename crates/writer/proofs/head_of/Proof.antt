@@ -43,7 +43,22 @@ high-requires-5 c κs = search needs
 
 returns : tie.Need-returns
 unfolding headOf
-returns c = cc
+returns c =
+    let c3 = c .before .before .before in
+    let c6 = c3 .before .before .before in
+    let c9 = c6 .before .before .before in
+    rw (
+      c9 .low .ensures,
+      c6 .before .before .high .ensures,
+      c6 .before .low2 .ensures,
+      c6 .high2 .ensures,
+      c3 .before .before .low3 .ensures,
+      c3 .before .high3 .ensures,
+      c3 .low4 .ensures,
+      c .before .before .high4 .ensures,
+      c .before .low5 .ensures,
+      c .high5 .ensures,
+    )
 
 pub head-of-spec : {M : Type 1} → statement M
 head-of-spec =
