@@ -11,7 +11,7 @@ use Rattle.body.specs.Body.{badOperation, measurements, goodError, badError, ba
 use Rattle.book.specs.Book.{headed, entryFits, badContents, readBook}
 use Rattle.book.proofs.Cases.{example}
 use Rattle.written.specs.Written.{headOf, bookOf}
-use Rattle.written.specs.Writer.{WriteLeft, writeTold, writeBook}
+use Rattle.written.specs.Writer.{writeTold, writeBook}
 
 -- the three bodies of 01's example
 abbrev ops : List ℕ

@@ -58,7 +58,7 @@ module _ (s : List ℕ) (bytes : Bytes s) {d n o e c : ℕ} (reads : readBook s 
   end = omega (arith, third, lies .ends)
 
   pair-at : (at w : ℕ) → at + 1 < 22 → word s at ≡ w → (getD s at 0 ≡ low w) × (getD s (at + 1) 0 ≡ high w)
-  pair-at at w l e = settled _ _ w (bytes at (omega (arith, room))) e
+  pair-at at w l e = settled _ _ w (bytes .below at (omega (arith, room))) e
 
   head-is : take 22 s ≡ headOf d n a b k
   unfolding headOf tab

@@ -9,12 +9,7 @@ use native.Mathlib.Omega.{arith}
 use lib.ListN.{length, drop, length-append}
 use lib.Seq.{take-at, drop-at, take-length, drop-drop}
 use borrow.Author.Tests.{le-leb, eq-eqb}
-use Rattle.modular.specs.Dimension.{listed}
-use Rattle.search.specs.declared.Place.the-variants.{Nowhere}
-use Rattle.search.proofs.Search.{met}
-use Rattle.tableau.specs.Tableau.{sized}
-use Rattle.body.specs.Body.{lengthFits, Told, readBodies}
-use Rattle.body.proofs.Sound.{NoRefusal, nowhere}
+use Rattle.body.specs.Body.{lengthFits}
 use Rattle.book.specs.Book.{headed, offsetOf, lengthOf, endOf, partOf, entryFits, badContents, readBook}
 use Rattle.book.proofs.Contents.{by-kind}
 use Rattle.written.specs.Written.{low, high, headOf, bookOf, badLengths, readParts, ReadsWritten, BodiesBack}
@@ -115,18 +110,3 @@ bodies-back d n ops errors choices o e c h =
       errors-back = by-kind _ 2 h ∙ second-part d n ops errors choices;
       choices-back = by-kind _ 3 h ∙ third-part d n ops errors choices;
     }
-
--- what d, n and bodies have passed that are told no refusal
-pub record PartsPassed (d n : ℕ) (ops errors choices : List ℕ) (t : Told) : Type 0 where
-  pub dimension : listed d ≡ true
-  pub qudits : sized n ≡ true
-  pub lengths : badLengths (length ops) (length errors) (length choices) ≡ Nowhere
-  pub bodies : readBodies d n ops errors choices ≡ t
-
-pub parts-passed : {t : Told} (d n : ℕ) (ops errors choices : List ℕ) → NoRefusal t → readParts d n ops errors choices ≡ t → PartsPassed d n ops errors choices t
-unfolding readParts
-parts-passed d n ops errors choices good e =
-    let p2 = met (listed d) (good 2 0) e in
-    let p3 = met (sized n) (good 3 0) (p2 .1) in
-    let p4 = nowhere 4 (badLengths (length ops) (length errors) (length choices)) _ good (p3 .1) in
-    record { dimension = p2 .0; qudits = p3 .0; lengths = p4 .0; bodies = p4 .1 }

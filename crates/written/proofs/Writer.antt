@@ -19,7 +19,8 @@ use Rattle.body.proofs.Refuses.{Refuses, refuses-unless, refuses-at, refuses-bo
 use Rattle.book.specs.Book.{readBook}
 use Rattle.written.specs.Written.{bookOf, badLengths, readParts}
 use Rattle.written.specs.Writer.{WriteLeft, overwritten, writeTold, writeBook, Rewritten, Filled, FillsOnlyBook}
-use Rattle.written.proofs.Read.{reads-written, bodies-back, parts-passed}
+use Rattle.written.proofs.Read.{reads-written, bodies-back}
+use Rattle.written.proofs.Accepted.{parts-passed, book-bytes}
 use Rattle.written.proofs.Only.{from-own-bodies, only-book}
 
 pub rewritten : Rewritten
@@ -44,15 +45,16 @@ module _ (d n : ℕ) (ops errors choices : List ℕ) where
       this : (j : ℕ) → At j ≡ At k → j < 3 → k < 3
       this j e l = let q : j ≡ k = cc in omega arith
 
+  told : {d' n' o e c : ℕ} → readBook s ≡ accepted d' n' o e c → readParts d n ops errors choices ≡ accepted d' n' o e c
+  told h = sym (reads-written d n ops errors choices) ∙ h
+
   -- an accepted one is accepted with these numbers
   abbrev Accepts : Type 0
   Accepts = readBook s ≡ accepted d n (length ops / 4) (length errors / 5) (length choices)
 
   numbers : {d' n' o e c : ℕ} → readBook s ≡ accepted d' n' o e c → Accepts
   numbers {d'} {n'} {o} {e} {c} h =
-      let good = no-refusal d' n' o e c in
-      let p = parts-passed d n ops errors choices good (sym (reads-written d n ops errors choices) ∙ h) in
-      h ∙ sym (all-sound d n ops errors choices good (p .bodies) .numbers)
+      h ∙ sym (all-sound d n ops errors choices (no-refusal d' n' o e c) (parts-passed d n ops errors choices (told h) .1) .numbers)
 
   -- What holds of each of the writer's answers, 2 to 7, 8 and success, holds of what it leaves. Its 4 names a body.
   module _ (out : List ℕ) (P : WriteLeft → Type 0) where
@@ -84,6 +86,7 @@ module _ (d n : ℕ) (ops errors choices : List ℕ) where
   filled out h =
       let taken = take-at s (drop (length s) out) (length s) refl in
       record {
+        bytes = λ a b c. rw taken (book-bytes (parts-passed d n ops errors choices (told h) .0) a b c);
         accepts = rw taken h;
         back = rw taken (bodies-back d n ops errors choices _ _ _ h);
         only = λ u bytes o e c reads back. rw taken (only-book d n ops errors choices u bytes o e c reads back);

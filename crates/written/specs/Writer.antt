@@ -37,9 +37,10 @@ Rewritten = (s : List ℕ) → Bytes s → (d n o e c : ℕ) → readBook s ≡ 
     → (out : List ℕ) → length s ≤ length out
     → writeBook d n (bodyOf s 1) (bodyOf s 2) (bodyOf s 3) out ≡ record { number = 0; place = length s; out = overwritten s out }
 
--- The buffer is filled with the only book that the reader accepts for d, n and the bodies: what was written is accepted and hands
--- the bodies back, and any book of bytes that is accepted with d and n and has these bodies is it.
+-- The buffer is filled with the only book that the reader accepts for d, n and the bodies: what was written is a book of bytes if
+-- the bodies are, is accepted and hands them back; and any book of bytes that is accepted with d and n and has these bodies is it.
 pub record Filled (d n : ℕ) (ops errors choices out : List ℕ) (left : WriteLeft) : Type 0 where
+  pub bytes : Bytes ops → Bytes errors → Bytes choices → Bytes (take (left .place) (left .out))
   pub accepts : readBook (take (left .place) (left .out)) ≡ accepted d n (length ops / 4) (length errors / 5) (length choices)
   pub back : Back (take (left .place) (left .out)) ops errors choices
   pub only : (s : List ℕ) → Bytes s → (o e c : ℕ) → readBook s ≡ accepted d n o e c → Back s ops errors choices → s ≡ take (left .place) (left .out)

@@ -59,8 +59,8 @@ BodiesBack = (d n : ℕ) (ops errors choices : List ℕ) (o e c : ℕ) → readB
     → Back (bookOf d n ops errors choices) ops errors choices
 
 -- Every number of the list is a byte. A lent slice has this by its type.
-abbrev pub Bytes : List ℕ → Type 0
-Bytes s = (i : ℕ) → i < length s → getD s i 0 < 256
+pub record Bytes (s : List ℕ) : Type 0 where
+  pub below : (i : ℕ) → i < length s → getD s i 0 < 256
 
 -- It is the only one: an accepted book of bytes that has these d, n and bodies is that one, byte for byte.
 abbrev pub OnlyBook : Type 0

@@ -10,14 +10,14 @@ use Rattle.body.specs.Body.{told}
 use Rattle.written.specs.Written.{bookOf}
 use Rattle.written.specs.Writer.{writeTold, writeBook}
 use Rattle.written.proofs.Read.{book-length, reads-written}
-use Rattle.writer.proofs.LaidOut.{Fits, fits}
+use Rattle.written.proofs.Accepted.{PartsFit, parts-passed}
 use Rattle.writer.proofs.write.Statement.{statement}
 use Rattle.writer.proofs.write.Tie as tie
 
 -- what is not refused by 2 to 7 fits
 fitting : (c : tie.After-enum-told) → let a = c .before .before .before .before .before .before .before .args in
-    Fits (a .d) (a .n) (now (a .ops)) (now (a .errors)) (now (a .choices))
-fitting c = fits _ _ _ _ _ (sym (c .before .before .read-parts .ensures) ∙ ap told (c .enum-told .given .1))
+    PartsFit (a .d) (a .n) (now (a .ops)) (now (a .errors)) (now (a .choices))
+fitting c = parts-passed _ _ _ _ _ (sym (c .before .before .read-parts .ensures) ∙ ap told (c .enum-told .given .1)) .0
 
 read-parts-requires : tie.Need-read-parts-requires
 read-parts-requires c κs = search needs
@@ -43,10 +43,10 @@ add-place : tie.Need-add-place
 add-place c = search needs
 
 add-place-2 : tie.Need-add-place-2
-add-place-2 c = let f = fitting c in omega (arith, f .operations, f .errors-fit)
+add-place-2 c = let f = fitting c in omega (arith, f .operations-most, f .errors-most)
 
 add-place-3 : tie.Need-add-place-3
-add-place-3 c = let f = fitting c in omega (arith, f .operations, f .errors-fit, f .choices-fit)
+add-place-3 c = let f = fitting c in omega (arith, f .operations-most, f .errors-most, f .choices-most)
 
 returns-2 : tie.Need-returns-2
 unfolding writeBook writeTold
@@ -71,7 +71,7 @@ cast-lay-book-2 c = omega (arith, fitting (c .before .before) .qudits-byte)
 lay-book-requires : tie.Need-lay-book-requires
 lay-book-requires c κs =
     let f = fitting (c .before .before) in
-    (c .before .if1 .left, f .operations, f .errors-fit, f .choices-fit)
+    (c .before .if1 .left, f .operations-most, f .errors-most, f .choices-most)
 
 same-length : tie.Need-same-length
 same-length c = search needs
