@@ -1,6 +1,6 @@
 -- What the reader tells of a book that is made of its bodies; that it is the only one; what the writer leaves; worked cases.
 pub mod Read
-pub mod Accepted
+pub mod Parts
 pub mod Only
 pub mod Writer
 pub mod Errorless

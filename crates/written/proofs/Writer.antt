@@ -20,7 +20,7 @@ use Rattle.book.specs.Book.{readBook}
 use Rattle.written.specs.Written.{bookOf, badLengths, readParts}
 use Rattle.written.specs.Writer.{WriteLeft, overwritten, writeTold, writeBook, Rewritten, Filled, FillsOnlyBook}
 use Rattle.written.proofs.Read.{reads-written, bodies-back}
-use Rattle.written.proofs.Accepted.{parts-passed, book-bytes}
+use Rattle.written.proofs.Parts.{parts-passed, book-bytes}
 use Rattle.written.proofs.Only.{from-own-bodies, only-book}
 
 pub rewritten : Rewritten

@@ -10,7 +10,7 @@ use Rattle.body.specs.Body.{told}
 use Rattle.written.specs.Written.{bookOf}
 use Rattle.written.specs.Writer.{writeTold, writeBook}
 use Rattle.written.proofs.Read.{book-length, reads-written}
-use Rattle.written.proofs.Accepted.{PartsFit, parts-passed}
+use Rattle.written.proofs.Parts.{PartsFit, parts-passed}
 use Rattle.writer.proofs.write.Statement.{statement}
 use Rattle.writer.proofs.write.Tie as tie
 
