@@ -236,8 +236,8 @@ impl Book {
         ]
     }
 
-    /// The bytes of the book, unchecked: [`write_book`](crate::write_book) writes the same ones, but
-    /// for a book that a run accepts and for no other.
+    /// The bytes of the book, unchecked. [`write_book`](crate::write_book) writes the same bytes, and
+    /// only where a run accepts them.
     ///
     /// A body that is too long for the two bytes of its length is written with the length 65,535,
     /// which no reader accepts, rather than with one cut to two bytes.

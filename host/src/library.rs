@@ -192,21 +192,4 @@ mod tests {
         book.choice(0);
         assert_eq!(run(&book, &mut [0; 2]), (7, 1, 0));
     }
-
-    #[test]
-    fn a_writer_succeeds_with_0_and_the_bytes_of_the_book() {
-        let numbers = |book: &Book, room: usize| {
-            let [operations, errors, choices] = book.bodies();
-            let mut out = vec![0; room];
-            let answer = write(&mut out, &operations, &errors, &choices, 3, 1);
-            (answer.number, answer.place)
-        };
-        let mut book = Book::new(3, 1);
-        assert_eq!(numbers(&book, 22), (0, 22));
-        book.operation(Operation::Fourier { q: 0 })
-            .strike(0, 1, 2)
-            .measure(0, 2);
-        assert_eq!(numbers(&book, 36), (0, 36));
-        assert_eq!(numbers(&book, 50), (0, 36));
-    }
 }

@@ -12,7 +12,8 @@ pub const fn book_len(operations: &[u8], errors: &[u8], choices: &[u8]) -> usize
 ///
 /// It is the only book that a run accepts for them, so the bodies of an accepted book, written
 /// again, give that book byte for byte. Returns the number of bytes written, which is
-/// [`book_len`]: a run wants just these, without what a longer buffer holds behind them.
+/// [`book_len`]: a run wants just these, without what a longer buffer holds behind them. A refusal
+/// leaves the buffer as it was.
 ///
 /// The bodies are bytes as a book has them: four for each operation, five for each error, one for
 /// each choice. [`Book::bodies`](crate::book::Book::bodies) makes them of Rust values.

@@ -15,9 +15,8 @@ use Rattle.tableau.specs.Tableau.{sized}
 use Rattle.layer.specs.Layer.{layerNumber, layerLeaves}
 use Rattle.validity.specs.Validity.{valid, testNumber}
 use Rattle.body.specs.Body.{Told, refused, accepted}
-use Rattle.body.proofs.Refuses.{Refuses}
 use Rattle.book.specs.Book.{readBook}
-use Rattle.book.proofs.Refuses.{read-refuses}
+use Rattle.book.proofs.Answers.{read-cases}
 use Rattle.book.specs.Decoded.{measurementsIn}
 use Rattle.written.specs.Writer.{writeBook}
 use Rattle.written.proofs.Writer.{write-cases}
@@ -44,10 +43,6 @@ test-listed d n t =
     P : ℕ → Type 0
     P number = among number (0 ∷ 2 ∷ 3 ∷ 8 ∷ 9 ∷ []) ≡ true
 
--- what the reader refuses has a listed number
-read-listed : (s : List ℕ) → Refuses (λ number place. among number runNumbers ≡ true) (readBook s)
-read-listed = read-refuses _ refl refl refl (λ k. refl) (λ k. refl) (λ k. refl) (λ k. refl)
-
 writer-listed : (d n : ℕ) (ops errors choices out : List ℕ) → among (writeBook d n ops errors choices out .number) writerNumbers ≡ true
 writer-listed d n ops errors choices out =
     write-cases d n ops errors choices out (λ left. among (left .number) writerNumbers ≡ true)
@@ -55,27 +50,24 @@ writer-listed d n ops errors choices out =
 
 direct-listed : (s t results : List ℕ) → among (directBook s t results .number) runNumbers ≡ true
 unfolding directBook directTold
-direct-listed s t results = go (readBook s) refl
+direct-listed s t results =
+    read-cases (λ x. P (directTold s t results x)) refl refl refl (λ k. refl) (λ k. refl) (λ k. refl) (λ k. refl)
+    (λ d n o e c. unless-cases P (roomy n (measurementsIn s d n) t results) (λ e. refl) (λ e. unless-cases P (valid d n t) (λ e. refl) (λ e. refl)))
+    s
   where
     P : Left → Type 0
     P l = among (l .number) runNumbers ≡ true
 
-    go : (x : Told) → readBook s ≡ x → P (directTold s t results x)
-    go (refused number place) h = read-listed s .with number place h
-    go (accepted d n operations errors choices) h =
-        unless-cases P (roomy n (measurementsIn s d n) t results) (λ e. refl) (λ e. unless-cases P (valid d n t) (λ e. refl) (λ e. refl))
-
 frame-listed : (s : List ℕ) (lent : Buffers) → among (frameBook s lent .number) runNumbers ≡ true
 unfolding frameBook frameTold
-frame-listed s lent = go (readBook s) refl
+frame-listed s lent =
+    read-cases (λ x. P (frameTold s lent x)) refl refl refl (λ k. refl) (λ k. refl) (λ k. refl) (λ k. refl)
+    (λ d n o e c.
+    unless-cases P (frameRoomy n (measurementsIn s d n) lent) (λ e. refl) (λ e. unless-cases P (valid d n (lent .tableau)) (λ e. refl) (λ e. refl)))
+    s
   where
     P : FrameLeft → Type 0
     P l = among (l .number) runNumbers ≡ true
-
-    go : (x : Told) → readBook s ≡ x → P (frameTold s lent x)
-    go (refused number place) h = read-listed s .with number place h
-    go (accepted d n operations errors choices) h =
-        unless-cases P (frameRoomy n (measurementsIn s d n) lent) (λ e. refl) (λ e. unless-cases P (valid d n (lent .tableau)) (λ e. refl) (λ e. refl))
 
 pub numbers-listed : NumbersListed
 numbers-listed = record { layer = layer-listed; test = test-listed; writer = writer-listed; direct = direct-listed; frame = frame-listed }

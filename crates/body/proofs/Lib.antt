@@ -1,4 +1,4 @@
 -- What other proofs use; worked cases.
 pub mod Sound
-pub mod Refuses
+pub mod Answers
 pub mod Cases

@@ -33,7 +33,7 @@ all-passed s good e =
     let p4 = nowhere 4 (badContents s) _ good (p3 .1) in
     record { head = p1 .0; dimension = p2 .0; qudits = p3 .0; contents = p4 .0; bodies = p4 .1 }
 
--- a headed book has at least 22 bytes, and these two among them
+-- a headed book has at least 22 bytes; byte 0 is 81 and byte 3 is 3
 pub head-room : (s : List ℕ) → headed s ≡ true → 22 ≤ length s
 unfolding headed
 head-room s e = leb-true _ _ (and-eq-true-iff (leb 22 (length s)) _ .0 e .0)

@@ -1,6 +1,6 @@
--- What the proofs of several functions use; what an accepted book means, and hands to a run; books with other choices; worked cases.
+-- What the proofs of several functions use; the reader's answers by cases; what an accepted book means, and hands to a run; books with other choices; worked cases.
 pub mod Contents
-pub mod Refuses
+pub mod Answers
 pub mod Lists
 pub mod Meaning
 pub mod Handed

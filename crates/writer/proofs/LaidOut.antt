@@ -1,4 +1,4 @@
--- Head and bodies laid one after the other are the book; an accepted one has bytes and lengths that fit.
+-- Head and bodies laid one behind the other are the book.
 -- Assumes nothing.
 use mathlib.Core.Path.{_≡_, refl, sym, ap, _∙_}
 use mathlib.Core.List.{List, _++_, append-assoc}

@@ -1,1 +1,2 @@
+-- What the proof of a function uses.
 pub mod LaidOut

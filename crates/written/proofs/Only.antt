@@ -15,11 +15,8 @@ use Rattle.book.proofs.Contents.{Passed, all-passed, head-room, head-bytes, Lai
 use Rattle.book.proofs.Meaning.{accepted-means}
 use Rattle.written.specs.Written.{low, high, headOf, bookOf, Bytes, OnlyBook}
 
-abbrev byteOf : List ℕ → ℕ → ℕ
-byteOf s i = getD s i 0
-
 -- the first k elements, one by one
-firsts : (s : List ℕ) (k : ℕ) → k ≤ length s → take k s ≡ tab (byteOf s) k
+firsts : (s : List ℕ) (k : ℕ) → k ≤ length s → take k s ≡ tab (λ (i : ℕ). getD s i 0) k
 unfolding tab
 firsts s zero l = refl
 firsts s (suc k) l = take-suc s k 0 l ∙ ap (λ (x : List ℕ). x ++ (getD s k 0 ∷ [])) (firsts s k (omega arith))

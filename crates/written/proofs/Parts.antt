@@ -13,7 +13,7 @@ use Rattle.modular.proofs.Listed.{dimension}
 use Rattle.search.proofs.Search.{met, some-place}
 use Rattle.tableau.specs.Tableau.{sized}
 use Rattle.tableau.proofs.Sized.{sized-most}
-use Rattle.body.specs.Body.{lengthFits, accepted, readBodies}
+use Rattle.body.specs.Body.{lengthFits, accepted}
 use Rattle.body.proofs.Sound.{no-refusal, nowhere}
 use Rattle.written.specs.Written.{low, high, entryOf, headOf, bookOf, badLengths, readParts, Bytes}
 
@@ -26,8 +26,7 @@ pub record PartsFit (d n : ℕ) (ops errors choices : List ℕ) : Type 0 where
   pub choices-most : length choices ≤ 4096
 
 module _ (d n : ℕ) (ops errors choices : List ℕ) where
-  pub parts-passed : {d' n' o e c : ℕ} → readParts d n ops errors choices ≡ accepted d' n' o e c
-      → PartsFit d n ops errors choices × (readBodies d n ops errors choices ≡ accepted d' n' o e c)
+  pub parts-passed : {d' n' o e c : ℕ} → readParts d n ops errors choices ≡ accepted d' n' o e c → PartsFit d n ops errors choices
   unfolding readParts
   parts-passed {d'} {n'} {o} {e} {c} h =
       let good = no-refusal d' n' o e c in
@@ -36,16 +35,14 @@ module _ (d n : ℕ) (ops errors choices : List ℕ) where
       let p4 = nowhere 4 (badLengths (length ops) (length errors) (length choices)) _ good (p3 .1) in
       let q0 = met (lengthFits (length ops) 4 4096) some-place (p4 .0) in
       let q1 = met (lengthFits (length errors) 5 2048) some-place (q0 .1) in
-      let q2 = met (lengthFits (length choices) 1 4096) some-place (q1 .1) in (
-        record {
-          dimension-byte = omega (arith, dimension d (p2 .0) .high);
-          qudits-byte = omega (arith, sized-most n (p3 .0));
-          operations-most = leb-true _ _ (and-eq-true-iff (eqb (length ops % 4) 0) _ .0 (q0 .0) .1);
-          errors-most = leb-true _ _ (and-eq-true-iff (eqb (length errors % 5) 0) _ .0 (q1 .0) .1);
-          choices-most = leb-true _ _ (and-eq-true-iff (eqb (length choices % 1) 0) _ .0 (q2 .0) .1);
-        },
-        p4 .1,
-      )
+      let q2 = met (lengthFits (length choices) 1 4096) some-place (q1 .1) in
+      record {
+        dimension-byte = omega (arith, dimension d (p2 .0) .high);
+        qudits-byte = omega (arith, sized-most n (p3 .0));
+        operations-most = leb-true _ _ (and-eq-true-iff (eqb (length ops % 4) 0) _ .0 (q0 .0) .1);
+        errors-most = leb-true _ _ (and-eq-true-iff (eqb (length errors % 5) 0) _ .0 (q1 .0) .1);
+        choices-most = leb-true _ _ (and-eq-true-iff (eqb (length choices % 1) 0) _ .0 (q2 .0) .1);
+      }
 
 -- lists of bytes
 none : Bytes []

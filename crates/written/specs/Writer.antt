@@ -1,7 +1,7 @@
 -- The writer: what it returns, and what it leaves in the lent buffer. The statements are proved in proofs/.
 use mathlib.Core.Path.{_≡_}
 use mathlib.Core.List.{List, _++_}
-use Prim.Native.Nat.{ℕ, _/_, _≤_}
+use Prim.Native.Nat.{ℕ, _+_, _/_, _≤_}
 use lib.Dec.{leb}
 use lib.ListN.{length, take, drop}
 use Rattle.search.specs.Search.{unless}
@@ -37,9 +37,11 @@ Rewritten = (s : List ℕ) → Bytes s → (d n o e c : ℕ) → readBook s ≡ 
     → (out : List ℕ) → length s ≤ length out
     → writeBook d n (bodyOf s 1) (bodyOf s 2) (bodyOf s 3) out ≡ record { number = 0; place = length s; out = overwritten s out }
 
--- The buffer is filled with the only book that the reader accepts for d, n and the bodies: what was written is a book of bytes if
--- the bodies are, is accepted and hands them back; and any book of bytes that is accepted with d and n and has these bodies is it.
+-- The buffer is filled with the only book that the reader accepts for d, n and the bodies. What was written, 22 bytes and the
+-- bodies, is a book of bytes if the bodies are, is accepted and hands them back; any book of bytes that is accepted with d and n
+-- and has these bodies is it; and no byte past it changed.
 pub record Filled (d n : ℕ) (ops errors choices out : List ℕ) (left : WriteLeft) : Type 0 where
+  pub size : left .place ≡ 22 + length ops + length errors + length choices
   pub bytes : Bytes ops → Bytes errors → Bytes choices → Bytes (take (left .place) (left .out))
   pub accepts : readBook (take (left .place) (left .out)) ≡ accepted d n (length ops / 4) (length errors / 5) (length choices)
   pub back : Back (take (left .place) (left .out)) ops errors choices

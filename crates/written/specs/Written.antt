@@ -30,13 +30,14 @@ headOf d n a b c = 81 ∷ d ∷ n ∷ 3 ∷ (entryOf 1 22 a ++ (entryOf 2 (22 + 
 unfoldable pub bookOf : ℕ → ℕ → List ℕ → List ℕ → List ℕ → List ℕ
 bookOf d n ops errors choices = headOf d n (length ops) (length errors) (length choices) ++ (ops ++ (errors ++ choices))
 
--- What is told of d, n and the bodies: 2, 3, then 4 by the bodies' lengths, then 5, 6 and 7.
+-- 4: the first body whose length is not whole entries, or too many
 abbrev pub badLengths : (a b c : ℕ) → Place
 badLengths a b c =
     unless (lengthFits a 4 4096) (At 0)
     (unless (lengthFits b 5 2048) (At 1)
     (unless (lengthFits c 1 4096) (At 2) Nowhere))
 
+-- What is told of d, n and the bodies: 2, 3, then 4 by the bodies' lengths, then 5, 6 and 7.
 unfoldable pub readParts : ℕ → ℕ → List ℕ → List ℕ → List ℕ → Told
 readParts d n ops errors choices =
     unless (listed d) (refused 2 0)

@@ -3,11 +3,9 @@
 use mathlib.Core.Path.{sym, ap, _∙_}
 use native.Mathlib.Omega.{arith}
 use denote.Ref.{now}
-use lib.ListN.{length}
 use borrow.Author.Tests.{le-leb, lt-leb}
 use borrow.Author.Needs.{needs}
 use Rattle.body.specs.Body.{told}
-use Rattle.written.specs.Written.{bookOf}
 use Rattle.written.specs.Writer.{writeTold, writeBook}
 use Rattle.written.proofs.Read.{book-length, reads-written}
 use Rattle.written.proofs.Parts.{PartsFit, parts-passed}
@@ -17,7 +15,7 @@ use Rattle.writer.proofs.write.Tie as tie
 -- what is not refused by 2 to 7 fits
 fitting : (c : tie.After-enum-told) → let a = c .before .before .before .before .before .before .before .args in
     PartsFit (a .d) (a .n) (now (a .ops)) (now (a .errors)) (now (a .choices))
-fitting c = parts-passed _ _ _ _ _ (sym (c .before .before .read-parts .ensures) ∙ ap told (c .enum-told .given .1)) .0
+fitting c = parts-passed _ _ _ _ _ (sym (c .before .before .read-parts .ensures) ∙ ap told (c .enum-told .given .1))
 
 read-parts-requires : tie.Need-read-parts-requires
 read-parts-requires c κs = search needs
@@ -33,8 +31,7 @@ unfolding writeBook writeTold
 returns c =
     let r = c .before .before in
     let p = r .before .before in
-    let a = p .before .before .before .before .before .args in
-    rw (reads-written (a .d) (a .n) (now (a .ops)) (now (a .errors)) (now (a .choices)), ← p .read-parts .ensures, r .reading .given .1, c .wide .ensures .0)
+    rw (reads-written _ _ _ _ _, ← p .read-parts .ensures, r .reading .given .1, c .wide .ensures .0)
 
 enum-told : tie.Need-enum-told
 enum-told c = search needs
@@ -53,12 +50,11 @@ unfolding writeBook writeTold
 returns-2 c =
     let e = c .before in
     let p = e .before .before in
-    let a = p .before .before .before .before .before .args in
     rw (
-      reads-written (a .d) (a .n) (now (a .ops)) (now (a .errors)) (now (a .choices)),
+      reads-written _ _ _ _ _,
       ← p .read-parts .ensures,
       e .enum-told .given .1,
-      book-length (a .d) (a .n) (now (a .ops)) (now (a .errors)) (now (a .choices)),
+      book-length _ _ _ _ _,
       lt-leb _ _ (c .if1 .taken),
     )
 
@@ -83,16 +79,13 @@ returns-3 c =
     let l = f .before .before in
     let e = l .before in
     let p = e .before .before in
-    let a = p .before .before .before .before .before .args in
-    let s = bookOf (a .d) (a .n) (now (a .ops)) (now (a .errors)) (now (a .choices)) in
-    let size = book-length (a .d) (a .n) (now (a .ops)) (now (a .errors)) (now (a .choices)) in
     rw (
-      reads-written (a .d) (a .n) (now (a .ops)) (now (a .errors)) (now (a .choices)),
+      reads-written _ _ _ _ _,
       ← p .read-parts .ensures,
       e .enum-told .given .1,
       f .lay-book .ensures,
-      le-leb (length s) (length (now (a .out))) (omega (arith, size, l .if1 .left)),
-      size,
+      book-length _ _ _ _ _,
+      le-leb _ _ (l .if1 .left),
     )
 
 pub write-spec : {M : Type 1} → statement M
