@@ -9,7 +9,7 @@ use cagvost::book::{Book, DIMENSIONS, MAX_CHOICES, MAX_ERRORS, MAX_OPERATIONS};
 use cagvost::book::{Operation, WeylError};
 use common::frames::{Buffers, carry_both};
 use common::plain::{Told, is_valid, read};
-use common::{BODIES, PAPER_BOOK, Rng, Shape, UNWRITTEN, layer_both, run_both, test_both};
+use common::{BODIES, FULL, PAPER_BOOK, Rng, Shape, UNWRITTEN, layer_both, run_both, test_both};
 use common::{counted, draw_book, draw_tableau, with_byte, with_tail, zero_tableau};
 
 /// What a run with good buffers says to the book.
@@ -473,15 +473,7 @@ fn drawn_books_damaged_a_few_times() {
     let mut rng = Rng(77);
     let mut numbers = [0; 11];
     for _ in 0..20_000 {
-        let (d, n) = ([3, 5, 7][rng.below(3)], 1 + rng.byte_below(4));
-        let (operations, errors) = (rng.below(12), rng.below(4));
-        let shape = Shape {
-            d,
-            n,
-            operations,
-            errors,
-            measure_one_in: 3,
-        };
+        let shape = Shape::small(&mut rng);
         let mut book = draw_book(&mut rng, shape).to_bytes();
         for _ in 0..1 + rng.below(3) {
             damage(&mut rng, &mut book);
@@ -495,14 +487,7 @@ fn drawn_books_damaged_a_few_times() {
 #[test]
 fn long_books_damaged_once() {
     let mut rng = Rng(78);
-    let shape = Shape {
-        d: 5,
-        n: 2,
-        operations: MAX_OPERATIONS,
-        errors: MAX_ERRORS,
-        measure_one_in: 4,
-    };
-    let book = draw_book(&mut rng, shape).to_bytes();
+    let book = draw_book(&mut rng, FULL).to_bytes();
     for _ in 0..300 {
         let place = rng.below(book.len());
         answer(&with_byte(&book, place, rng.byte_below(9)));

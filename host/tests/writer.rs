@@ -9,7 +9,9 @@ mod common;
 
 use cagvost::book::{Book, DIMENSIONS, MAX_CHOICES, MAX_ERRORS, MAX_OPERATIONS, Operation};
 use common::plain::{self, Told};
-use common::{BODIES, PAPER_BOOK, Rng, Run, Shape, UNWRITTEN, counted, draw_book, paper_book};
+use common::{
+    BODIES, FULL, PAPER_BOOK, Rng, Run, Shape, UNWRITTEN, counted, draw_book, paper_book,
+};
 use common::{run_both, slices, told, with_byte, with_tail, write_both, zero_tableau};
 
 /// What the writer is handed beside the buffer.
@@ -377,13 +379,7 @@ fn drawn_bodies_damaged_a_few_times() {
     let mut rng = Rng(41);
     let (mut numbers, mut entries) = ([0; 9], [0; 3]);
     for _ in 0..20_000 {
-        let shape = Shape {
-            d: [3, 5, 7][rng.below(3)],
-            n: 1 + rng.byte_below(4),
-            operations: rng.below(12),
-            errors: rng.below(4),
-            measure_one_in: 3,
-        };
+        let shape = Shape::small(&mut rng);
         let mut handed = Handed::of(&draw_book(&mut rng, shape));
         for _ in 0..1 + rng.below(3) {
             damage(&mut rng, &mut handed);
@@ -403,14 +399,7 @@ fn drawn_bodies_damaged_a_few_times() {
 #[test]
 fn long_bodies_damaged_once() {
     let mut rng = Rng(42);
-    let shape = Shape {
-        d: 5,
-        n: 2,
-        operations: MAX_OPERATIONS,
-        errors: MAX_ERRORS,
-        measure_one_in: 4,
-    };
-    let handed = Handed::of(&draw_book(&mut rng, shape));
+    let handed = Handed::of(&draw_book(&mut rng, FULL));
     for _ in 0..300 {
         let mut damaged = handed.clone();
         let body = &mut damaged.bodies[rng.below(3)];

@@ -6,7 +6,7 @@ pub mod frames;
 pub mod plain;
 
 use cagvost::Refusal;
-use cagvost::book::{Book, DIMENSIONS, Operation, WeylError};
+use cagvost::book::{Book, DIMENSIONS, MAX_ERRORS, MAX_OPERATIONS, Operation, WeylError};
 
 /// A byte that no call but the writer writes: results, marks, shifts, powers and phases are below
 /// 31. Buffers are filled with it before a call, so that a byte left unwritten shows.
@@ -138,6 +138,28 @@ pub struct Shape {
     pub errors: usize,
     /// About one operation in so many is a measurement.
     pub measure_one_in: usize,
+}
+
+/// A full book on two qudits.
+pub const FULL: Shape = Shape {
+    d: 5,
+    n: 2,
+    operations: MAX_OPERATIONS,
+    errors: MAX_ERRORS,
+    measure_one_in: 4,
+};
+
+impl Shape {
+    /// A small book, for faults to be drawn into it.
+    pub fn small(rng: &mut Rng) -> Shape {
+        Shape {
+            d: [3, 5, 7][rng.below(3)],
+            n: 1 + rng.byte_below(4),
+            operations: rng.below(12),
+            errors: rng.below(4),
+            measure_one_in: 3,
+        }
+    }
 }
 
 /// An acceptable book: gates, measurements and errors strewn over it.
