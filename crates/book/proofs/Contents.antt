@@ -73,7 +73,12 @@ laid s e =
     let m1 = met (entryFits s 10 2 (endOf s 4) 5 2048) some-place (m0 .1) in
     let m2 = met (entryFits s 16 3 (endOf s 10) 1 4096) some-place (m1 .1) in
     let m3 = met (eqb (endOf s 16) (length s)) some-place (m2 .1) in
-    record { first = fits s 4 1 22 4 4096 (m0 .0); second = fits s 10 2 (endOf s 4) 5 2048 (m1 .0); third = fits s 16 3 (endOf s 10) 1 4096 (m2 .0); ends = eqb-true _ _ (m3 .0) }
+    record {
+      first = fits s 4 1 22 4 4096 (m0 .0);
+      second = fits s 10 2 (endOf s 4) 5 2048 (m1 .0);
+      third = fits s 16 3 (endOf s 10) 1 4096 (m2 .0);
+      ends = eqb-true _ _ (m3 .0);
+    }
 
 -- the header and the bodies lie within the book
 pub record Inside (s : List ℕ) : Type 0 where

@@ -6,7 +6,8 @@ ghost use Rattle.modular.specs.Modular.{WideReciprocal};
 ghost use Rattle.row.specs.Row.{pairing};
 ghost use Rattle.tableau.specs.Tableau.{sized, Tableau, row};
 
-// What an entry point returns: 0 and the number of measurements, or a refusal's number and its place.
+// What an entry point returns: 0 and a count (a run's measurements, the bytes that the writer wrote, else 0), or a refusal's number
+// and its place.
 #[repr(C)]
 pub struct Answer {
     pub number: usize,

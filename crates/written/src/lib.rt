@@ -1,1 +1,1 @@
-// The book that d, n and three bodies make; no code.
+// The book that d, n and three bodies make, and what the writer leaves; no code.
