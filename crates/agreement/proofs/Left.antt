@@ -3,7 +3,6 @@
 use mathlib.Core.Path.{_≡_, sym}
 use mathlib.Core.List.{List}
 use Prim.Native.Nat.{ℕ, _+_, _*_}
-use native.Mathlib.Omega.{arith}
 use lib.ListN.{length}
 use borrow.Author.Tests.{le-leb}
 use Rattle.modular.specs.Dimension.{Dimension}
@@ -14,20 +13,10 @@ use Rattle.book.specs.Book.{readBook}
 use Rattle.book.specs.Decoded.{opsIn, errorsIn, choicesIn, measurementsIn}
 use Rattle.run.specs.Direct.{directRun}
 use Rattle.run.specs.Frame.{frameRun}
-use Rattle.carrying.proofs.Window.{Window, window-of, window-bytes}
+use Rattle.carrying.proofs.Window.{Window, window-of, valid-window}
 use Rattle.direct.specs.DirectBook.{ended, directTold, directBook}
 use Rattle.framed.specs.FrameBook.{Buffers, frameRoomy, frameEnded, frameTold, frameBook}
 use Rattle.agreement.specs.Lent.{Lent}
-
--- validity depends on the needed bytes alone
-valid-window : {d n : ℕ} {t u : List ℕ} → Window n t u → Valid d n t → Valid d n u
-valid-window {d} {n} {t} {u} w v =
-    record {
-      room = w .room';
-      below = λ k l. rw (window-bytes n w k l) at (v .below k l);
-      partners = λ i l. rw (← w .rows (n + i) (omega arith), ← w .rows i (omega arith)) (v .partners i l);
-      others = λ i j l h a b. rw (← w .rows i l, ← w .rows j h) (v .others i j l h a b);
-    }
 
 module _ {d n measurements : ℕ} (dim : Dimension d) {t results : List ℕ} {lent : Buffers} (given : Lent d n measurements t results lent) where
   -- the start tableau, and the direct run's copy of it
@@ -47,7 +36,7 @@ module _ {d n measurements : ℕ} (dim : Dimension d) {t results : List ℕ} {le
         e,
         le-leb (2 * n * (2 * n + 1)) (length t) (given .copy-room),
         le-leb (2 * measurementsIn s d n) (length results) (rw m (given .direct-results)),
-        valid-exactly d n dim t (given .copy-room) .1 (valid-window window start),
+        valid-exactly d n dim t (given .copy-room) .1 (valid-window n window start),
       )
 
   pub frame-left : {operations errors choices : ℕ} (s : List ℕ) → readBook s ≡ accepted d n operations errors choices

@@ -6,3 +6,4 @@ pub mod Clean
 pub mod WithoutErrors
 pub mod Refusals
 pub mod LeavesValid
+pub mod Tray

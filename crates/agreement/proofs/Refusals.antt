@@ -22,7 +22,9 @@ use Rattle.written.specs.Writer.{writeBook}
 use Rattle.written.proofs.Writer.{write-cases}
 use Rattle.direct.specs.DirectBook.{Left, roomy, directTold, directBook}
 use Rattle.framed.specs.FrameBook.{Buffers, FrameLeft, frameRoomy, frameTold, frameBook}
-use Rattle.agreement.specs.Refusals.{runNumbers, writerNumbers, NumbersListed, WriterNamesBody, LayerUnchanged, WriterUnchanged, DirectUnchanged, FrameUnchanged}
+use Rattle.shots.specs.Shots.{trayBook}
+use Rattle.shots.proofs.Answers.{tray-cases}
+use Rattle.agreement.specs.Refusals.{runNumbers, trayNumbers, writerNumbers, NumbersListed, WriterNamesBody, LayerUnchanged, WriterUnchanged, DirectUnchanged, FrameUnchanged, TrayUnchanged}
 
 layer-listed : (d n : ℕ) (t : List ℕ) → among (layerNumber d n t) (0 ∷ 2 ∷ 3 ∷ 8 ∷ []) ≡ true
 unfolding layerNumber
@@ -69,8 +71,14 @@ frame-listed s lent =
     P : FrameLeft → Type 0
     P l = among (l .number) runNumbers ≡ true
 
+tray-listed : (s tray t out : List ℕ) → among (trayBook s tray t out .number) trayNumbers ≡ true
+tray-listed s tray t out =
+    tray-cases s tray t out (λ left. among (left .number) trayNumbers ≡ true)
+    refl refl refl (λ k. refl) (λ k. refl) (λ k. refl) (λ k. refl) refl refl refl (λ d n o h. refl)
+
 pub numbers-listed : NumbersListed
-numbers-listed = record { layer = layer-listed; test = test-listed; writer = writer-listed; direct = direct-listed; frame = frame-listed }
+numbers-listed =
+    record { layer = layer-listed; test = test-listed; writer = writer-listed; direct = direct-listed; frame = frame-listed; tray = tray-listed }
 
 pub layer-unchanged : LayerUnchanged
 unfolding layerLeaves
@@ -118,3 +126,18 @@ frame-unchanged s lent = go (readBook s)
     go (accepted d n operations errors choices) =
         unless-cases P (frameRoomy n (measurementsIn s d n) lent) (λ e h. (refl, refl))
         (λ e. unless-cases P (valid d n (lent .tableau)) (λ e h. (refl, refl)) (λ e h. absurd (h refl)))
+
+pub tray-unchanged : TrayUnchanged
+tray-unchanged s tray t out =
+    tray-cases s tray t out (λ left. left .number ≢ 0 → (left .out ≡ out) × (left .shifted ≡ 0))
+    (λ h. (refl, refl))
+    (λ h. (refl, refl))
+    (λ h. (refl, refl))
+    (λ k h. (refl, refl))
+    (λ k h. (refl, refl))
+    (λ k h. (refl, refl))
+    (λ k h. (refl, refl))
+    (λ h. (refl, refl))
+    (λ h. (refl, refl))
+    (λ h. (refl, refl))
+    (λ d n o e h. absurd (h refl))

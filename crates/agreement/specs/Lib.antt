@@ -3,3 +3,4 @@ pub mod Agreement
 pub mod Clean
 pub mod Refusals
 pub mod LeavesValid
+pub mod Tray

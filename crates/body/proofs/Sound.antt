@@ -11,7 +11,7 @@ use lib.ListN.{length}
 use borrow.Author.Tests.{eqb-true}
 use Rattle.search.specs.declared.Place.{Place}
 use Rattle.search.specs.declared.Place.the-variants.{At, Nowhere}
-use Rattle.body.specs.Body.{goodOperation, badOperation, measurements, goodError, badError, goodChoice, badChoice, Told, refused, accepted, at, readBodies}
+use Rattle.body.specs.Body.{goodOperation, badOperation, measurements, badError, goodChoice, badChoice, Told, refused, accepted, at, readBodies}
 use Rattle.search.proofs.Search.{met, some-place, all-good}
 
 -- an answer that is no refusal
@@ -44,10 +44,6 @@ module _ {d n : ℕ} {os es cs : List ℕ} {t : Told} (sound : Sound d n os es c
   pub each-operation : (k : ℕ) → k < length os / 4 → goodOperation d n os k ≡ true
   unfolding badOperation
   each-operation = all-good (goodOperation d n os) (length os / 4) (sound .operations)
-
-  pub each-error : (k : ℕ) → k < length es / 5 → goodError d n (length os / 4) es k ≡ true
-  unfolding badError
-  each-error = all-good (goodError d n (length os / 4) es) (length es / 5) (sound .errors)
 
   -- there is a choice for each measurement, below d
   pub one-each : length cs ≡ measurements os (length os / 4)

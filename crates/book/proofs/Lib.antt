@@ -2,6 +2,7 @@
 pub mod Contents
 pub mod Answers
 pub mod Lists
+pub mod Errors
 pub mod Meaning
 pub mod Handed
 pub mod Rechosen

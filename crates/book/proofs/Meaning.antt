@@ -1,30 +1,29 @@
 -- An accepted book's numbers are those of its lists of operations, errors and choices, and the lists are what 2, 3 and 5 to 7
 -- let through. Assumes nothing.
 use mathlib.Core.Path.{_≡_, refl, sym, ap, subst, _∙_}
-use mathlib.Core.Logic.{⊎-elim}
-use mathlib.Core.Bool.{cond, true, _&&_, false≢true, and-eq-true-iff}
+use mathlib.Core.Bool.{cond, true, false≢true}
 use mathlib.Core.List.{List, [], _∷_}
 use Prim.Native.Nat.{ℕ, zero, suc, _+_, _*_, _/_, _<_, _≤_}
-use native.Mathlib.Nat.{eq-or-lt-of-le, le-refl, le-trans, le-of-suc-le-suc}
+use native.Mathlib.Nat.{le-refl}
 use native.Mathlib.Omega.{arith}
-use lib.Dec.{eqb, leb}
+use lib.Dec.{eqb}
 use lib.ListN.{length, getD}
-use borrow.Author.Tests.{leb-true, ltb-true}
+use borrow.Author.Tests.{ltb-true}
 use Rattle.operation.specs.declared.Operation.{Operation}
 use Rattle.operation.specs.declared.Operation.the-variants.{Fourier, PhaseGate, Sum, Cz, Swap, Multiplier, Measure}
 use Rattle.operation.specs.Operation.{allowed}
-use Rattle.operation.specs.Error.{errorAllowed}
-use Rattle.circuit.specs.Circuit.{tally, measured, Strikes, Accepted}
+use Rattle.circuit.specs.Circuit.{tally, measured, Accepted}
 use Rattle.entries.specs.declared.Decoded.{Decoded}
 use Rattle.entries.specs.declared.Decoded.the-variants.{Good, Bad}
-use Rattle.entries.specs.Entry.{bytesOf, operationAt, errorAt}
-use Rattle.body.specs.Body.{isGood, measurements, placeBefore, goodError, Told, refused, accepted}
-use Rattle.body.proofs.Sound.{no-refusal, Sound, all-sound, each-operation, each-error, one-each, each-choice}
+use Rattle.entries.specs.Entry.{bytesOf, operationAt}
+use Rattle.body.specs.Body.{isGood, measurements, Told, refused, accepted}
+use Rattle.body.proofs.Sound.{no-refusal, Sound, all-sound, each-operation, one-each, each-choice}
 use Rattle.entries.proofs.Spelling.{spelled}
 use Rattle.book.specs.Book.{dimensionOf, quditsOf, partOf, bodyOf}
 use Rattle.book.specs.Decoded.{operationIn, operationOf, operationsOf, errorsOf, Means, AcceptedMeans}
 use Rattle.book.proofs.Contents.{all-passed, by-kind}
-use Rattle.book.proofs.Lists.{op-count, op-at, error-count, error-at}
+use Rattle.book.proofs.Lists.{op-count, op-at, error-count}
+use Rattle.book.proofs.Errors.{strikes, places}
 
 is-in : (x : Decoded) → isGood x ≡ true → x ≡ Good (operationIn x)
 is-in (Good op) e = refl
@@ -59,39 +58,12 @@ module _ {d n : ℕ} {os es cs : List ℕ} {t : Told} (sound : Sound d n os es c
   op-measured zero h = refl
   op-measured (suc k) h = rw (op-measured k (omega arith), op-at d n os k h, op-tally k h)
 
-  -- the errors
-  fits : (j : ℕ) → j < length es / 5 →
-      (errorAt es j .place ≤ length os / 4) × (placeBefore es j ≤ errorAt es j .place) × (errorAllowed d n (errorAt es j) ≡ true)
-  unfolding goodError
-  fits j h =
-      let e = errorAt es j in
-      let a = and-eq-true-iff (leb (e .place) (length os / 4)) (leb (placeBefore es j) (e .place) && errorAllowed d n e) .0 (each-error sound j h) in
-      let b = and-eq-true-iff (leb (placeBefore es j) (e .place)) (errorAllowed d n e) .0 (a .1) in
-      (leb-true _ _ (a .0), leb-true _ _ (b .0), b .1)
-
-  ordered : (i j : ℕ) → i ≤ j → j < length es / 5 → errorAt es i .place ≤ errorAt es j .place
-  ordered i zero h l = let e : i ≡ 0 = omega arith in rw e (le-refl _)
-  ordered i (suc j) h l =
-      ⊎-elim (λ (e : i ≡ suc j). rw e (le-refl _)) (λ (b : i < suc j). le-trans (ordered i j (le-of-suc-le-suc b) (omega arith)) (fits (suc j) l .1))
-      (eq-or-lt-of-le h)
-
-  strikes : Strikes d n (errorsOf es)
-  strikes =
-      record {
-        each = λ j h. let l : j < length es / 5 = rw error-count at h in rw (error-at es j l) (fits j l .2);
-        in-order =
-            λ i j h l.
-            let lj : j < length es / 5 = rw error-count at l in
-            let li : i < length es / 5 = omega arith in
-            rw (error-at es i li, error-at es j lj) (ordered i j h lj);
-      }
-
   lists : Accepted d n (operationsOf d n os) (errorsOf es) cs
   lists =
       record {
         operations = λ k h. let l : k < length os / 4 = rw op-count at h in rw (op-at d n os k l) (entry k l .0);
-        strikes = strikes;
-        places = λ j h. let l : j < length es / 5 = rw error-count at h in rw (error-at es j l, op-count) (fits j l .0);
+        strikes = strikes d n (length os / 4) es (sound .errors);
+        places = λ j h. rw op-count (places d n (length os / 4) es (sound .errors) j h);
         one-each = rw op-count (one-each sound ∙ sym (op-measured _ (le-refl _)));
         below = λ j h. ltb-true _ _ (each-choice sound j h);
       }

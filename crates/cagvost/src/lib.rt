@@ -1,12 +1,14 @@
-// What the host software calls: layer, tableau test, writer and the two runs, on numbers and byte slices.
+// What the host software calls: layer, tableau test, writer, the two runs and the run of a tray, on numbers and byte slices.
 ghost use mathlib.Core.Path.{_≡_};
 ghost use Rattle.layer.specs.Layer.{layerNumber, layerLeaves};
 ghost use Rattle.validity.specs.Validity.{testNumber};
 ghost use Rattle.written.specs.Writer.{writeBook};
 ghost use Rattle.direct.specs.DirectBook.{directBook};
 ghost use Rattle.framed.specs.FrameBook.{frameBook};
+ghost use Rattle.shots.specs.Shots.{trayBook};
 use framed::FrameAnswer;
 use tableau::Answer;
+use tray_run::TrayAnswer;
 
 // Lays the zero tableau of n qudits of dimension d, or refuses by 2, 3 or 8.
 #[no_mangle]
@@ -60,4 +62,13 @@ pub extern "C" fn cagvost_frame_run(
     ensures { λ r. ⌜ record { number = r .number; place = r .place; verdict = r .verdict; left = record { tableau = now (t .exit); results = now (results .exit); shifts = now (shifts .exit); frame = now (frame .exit) } } ≡ frameBook (now (book .entry)) (record { tableau = now (t .entry); results = now (results .entry); shifts = now (shifts .entry); frame = now (frame .entry) }) ⌝ }
 {
     framed::frame_run(book, t, results, shifts, frame)
+}
+
+// The shots of a tray over a book's circuit, each from the lent tableau.
+#[no_mangle]
+pub extern "C" fn cagvost_tray(book: &[u8], tray: &[u8], t: &[u8], out: &mut [u8]) -> TrayAnswer
+    ensures { λ r. ⌜ record { number = r .number; place = r .place; shifted = r .shifted; out = now (out .exit) }
+        ≡ trayBook (now (book .entry)) (now (tray .entry)) (now (t .entry)) (now (out .entry)) ⌝ }
+{
+    tray_run::tray_run(book, tray, t, out)
 }

@@ -121,6 +121,7 @@ module _ (room : Type 0) (d n : ℕ) (ops : List Operation) (errors : List WeylE
           rows = rows-shifted shiftBuffer frame;
           outcomes = plus-all .results r .outcome;
           marks = plus-all .results r .mark;
+          verdict = verdict-shifted shiftBuffer frame;
         }
 
 pub frame-is-clean : FrameIsClean

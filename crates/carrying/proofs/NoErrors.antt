@@ -24,7 +24,7 @@ use Rattle.conjugation.proofs.Tables.{gate-conjugates}
 use Rattle.circuit.specs.Circuit.{opAt, Kind, gate, measures, kind}
 use Rattle.run.specs.Direct.{State}
 use Rattle.run.specs.Frame.{noFrame, strikeFrame, noShift, verdictOf, frameRun}
-use Rattle.run.specs.Raised.{carryBy, struckFrame, carried, shiftBy, resultShifts, raised}
+use Rattle.run.specs.Raised.{carryBy, struckFrame, carried, finalFrame, shiftBy, resultShifts, raised}
 use Rattle.run.proofs.Frames.{no-powers}
 use Rattle.run.proofs.Shifts.{raised-length, raised-at}
 use Rattle.carrying.proofs.Shift.{pairing-none}
@@ -73,7 +73,7 @@ module _ (d n : ℕ) (dim : Dimension d) where
         by gate = gate-none (opAt ops (0 + m)) (good (0 + m) (omega arith))
         by (measures q) = refl
 
-    shifts-none : (count : ℕ) → count ≤ length ops → None (resultShifts d n ops [] 0 F count)
+    pub shifts-none : (count : ℕ) → count ≤ length ops → None (resultShifts d n ops [] 0 F count)
     unfolding resultShifts shiftBy struckFrame strikeFrame
     shifts-none zero l = λ s. refl
     shifts-none (suc m) l = by (kind (opAt ops (0 + m))) (shifts-none m (omega arith))
@@ -95,9 +95,13 @@ module _ (d n : ℕ) (dim : Dimension d) where
         ∙ rw (shifts-none (length ops) (le-refl (length ops)) j, add-zero (getD choices j 0)) (mod-eq-of-lt (below j k)))
 
     -- and the final frame, which pairs to 0 with every row, gives a clean verdict
-    pub verdict-none : (choices : List ℕ) (st : State) (shifts frame : List ℕ) → frameRun d n ops [] choices st shifts frame .verdict ≡ 0
-    unfolding frameRun verdictOf struckFrame strikeFrame
-    verdict-none choices st shifts frame =
-        rw (verdict-shifted ⊥ d n ops [] choices F st (λ r. absurd r) shifts frame, carried-none (length ops) (le-refl (length ops)))
+    pub final-clean : (t : List ℕ) → verdictOf d n (finalFrame d n ops [] (noFrame n)) t ≡ 0
+    unfolding verdictOf struckFrame strikeFrame
+    final-clean t =
+        rw (carried-none (length ops) (le-refl (length ops)))
         (ap (λ (b : Bool). cond b 0 1)
-        (all-from (noShift d n F _) n (λ i l. eq-eqb _ 0 (pairing-none d n F (row n _ (n + i)) low (λ s k. none s)))))
+        (all-from (noShift d n F t) n (λ i l. eq-eqb _ 0 (pairing-none d n F (row n t (n + i)) low (λ s k. none s)))))
+
+    pub verdict-none : (choices : List ℕ) (st : State) (shifts frame : List ℕ) → frameRun d n ops [] choices st shifts frame .verdict ≡ 0
+    unfolding frameRun
+    verdict-none choices st shifts frame = verdict-shifted ⊥ d n ops [] choices F st (λ r. absurd r) shifts frame ∙ final-clean _

@@ -27,6 +27,7 @@ use Rattle.outcome.specs.Look.{destabilizerPower, pivotOf, weighted, lookBy, lo
 use Rattle.outcome.proofs.Combination.{combination-same, pivot-same}
 use Rattle.outcome.specs.Collapse.{collapseRow, collapse}
 use Rattle.outcome.proofs.Collapsed.{collapsed-keeps}
+use Rattle.validity.specs.Validity.{Valid}
 use Rattle.run.specs.Direct.{strike}
 
 pub record Window (n : ℕ) (t u : List ℕ) : Type 0 where
@@ -58,6 +59,16 @@ module _ (n : ℕ) {t u : List ℕ} where
       rw (← q, ← row-at n t i s b, ← row-at n u i s b, w .rows i (div-lt-iff-lt-mul (omega arith) .1 l))
 
   module _ (w : Window n t u) where
+    -- validity depends on the tableau alone
+    pub valid-window : {d : ℕ} → Valid d n t → Valid d n u
+    valid-window v =
+        record {
+          room = w .room';
+          below = λ k l. rw (window-bytes w k l) at (v .below k l);
+          partners = λ i l. rw (← w .rows (n + i) (omega arith), ← w .rows i (omega arith)) (v .partners i l);
+          others = λ i j l h a b. rw (← w .rows i l, ← w .rows j h) (v .others i j l h a b);
+        }
+
     pub window-on : (f : ℕ → List ℕ → List ℕ) → Keeps (2 * n + 1) f → Window n (onRows n f t) (onRows n f u)
     window-on f k =
         record {

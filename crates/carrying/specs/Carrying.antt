@@ -63,13 +63,15 @@ CarriedFrom = (d n : ℕ) → Dimension d → (ops : List Operation) (errors : L
     (directRun d n ops errors (raised d n ops errors F choices) (record { rows = shiftRows d n F t; results = results }))
     (frameRunFrom d n ops errors choices F (record { rows = t; results = results }) shifts frame)
 
--- The frame run is the clean run, without errors, with the final frame added: to the rows, and to each result its shift.
+-- The frame run is the clean run, without errors, with the final frame added: to the rows, and to each result its shift. Its verdict
+-- is that frame's on the clean run's rows.
 pub record CleanPlus (d n : ℕ) (ops : List Operation) (errors : List WeylError) (F frame : List ℕ) (clean : State) (framed : Ended) : Type 0 where
   pub final : framed .frame ≡ finalFrame d n ops errors F ++ drop (2 * n) frame
   pub rows : framed .rows ≡ shiftRows d n (finalFrame d n ops errors F) (clean .rows)
   pub outcomes : (j : ℕ) → j < measured ops (length ops)
       → getD (framed .results) (2 * j) 0 ≡ (getD (clean .results) (2 * j) 0 + getD (resultShifts d n ops errors 0 F (length ops)) j 0) % d
   pub marks : (j : ℕ) → j < measured ops (length ops) → getD (framed .results) (2 * j + 1) 0 ≡ getD (clean .results) (2 * j + 1) 0
+  pub verdict : framed .verdict ≡ verdictOf d n (finalFrame d n ops errors F) (clean .rows)
 
 abbrev pub FrameIsClean : Type 0
 FrameIsClean = (d n : ℕ) (ops : List Operation) (errors : List WeylError) (choices F : List ℕ) (st : State) (shifts frame : List ℕ)

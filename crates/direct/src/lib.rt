@@ -41,7 +41,7 @@ fn run_even(
 }
 
 // The same on rows with their own phases: 0 and the number of measurements.
-fn run(
+pub fn run(
     t: &mut [u8],
     results: &mut [u8],
     ops: &[u8],

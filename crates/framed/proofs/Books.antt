@@ -24,7 +24,7 @@ pub record Room (n measurements : ℕ) (lent : Buffers) : Type 0 where
   pub shifts : 2 * n ≤ length (lent .shifts)
   pub frame : 2 * n ≤ length (lent .frame)
 
-room-of : (n measurements : ℕ) (lent : Buffers) → frameRoomy n measurements lent ≡ true → Room n measurements lent
+pub room-of : (n measurements : ℕ) (lent : Buffers) → frameRoomy n measurements lent ≡ true → Room n measurements lent
 unfolding frameRoomy
 room-of n measurements lent e =
     let a = both (leb (2 * n * (2 * n + 1)) (length (lent .tableau))) _ e in

@@ -42,7 +42,7 @@ module _ (s : List ℕ) {d n operations errors choices : ℕ} (e : readBook s �
           lies .third .whole,
         )
 
-    with-errors : readBook (bookOf d n (bodyOf s 1) other (bodyOf s 3)) ≡ at 6 (badError d n operations other) (accepted d n operations (length other / 5) choices)
+    pub with-errors : readBook (bookOf d n (bodyOf s 1) other (bodyOf s 3)) ≡ at 6 (badError d n operations other) (accepted d n operations (length other / 5) choices)
     unfolding readParts readBodies
     with-errors =
         let x = sound .numbers in

@@ -1,0 +1,19 @@
+-- The frames of 256 shots carried over the operations of one circuit.
+use mathlib.Core.Path.{_≡_}
+use mathlib.Core.List.{List}
+use Prim.Native.Nat.{ℕ, _<_}
+use lib.ListN.{length}
+use Rattle.operation.specs.declared.Operation.{Operation}
+use Rattle.operation.specs.declared.WeylError.{WeylError}
+use Rattle.run.specs.Raised.{carried, finalFrame}
+use Rattle.lanes.specs.Lanes.{lane}
+
+-- each lane of v, carried over the first k operations with the errors of its shot, stands in w
+pub record CarriedTo (d n : ℕ) (ops : List Operation) (errors : ℕ → List WeylError) (k : ℕ) (v w : List ℕ) : Type 0 where
+  pub len : length w ≡ length v
+  pub each : (l : ℕ) → l < 256 → lane n w l ≡ carried d n ops (errors l) 0 (lane n v l) k
+
+-- the same over all operations, with the errors after them
+pub record CarriedAll (d n : ℕ) (ops : List Operation) (errors : ℕ → List WeylError) (v w : List ℕ) : Type 0 where
+  pub len : length w ≡ length v
+  pub each : (l : ℕ) → l < 256 → lane n w l ≡ finalFrame d n ops (errors l) (lane n v l)

@@ -1,0 +1,103 @@
+// A block of up to 256 shots: their frames carried in lanes, their results told from the clean ones.
+ghost use mathlib.Core.Path.{_≡_};
+ghost use Prim.Native.Nat.{ℕ, _+_, _*_, _/_, _<_, _≤_};
+ghost use lib.ListN.{length};
+ghost use Rattle.circuit.specs.Circuit.{measured};
+ghost use Rattle.book.specs.Decoded.{operationsOf};
+ghost use Rattle.lanes.specs.Lanes.{Lanes};
+ghost use Rattle.calendar.specs.Passing.{laneErrors, Block};
+ghost use Rattle.calendar.specs.Calendar.{Filed};
+ghost use Rattle.block.specs.Carried.{CarriedAll};
+ghost use Rattle.block.specs.Block.{Empty, Told, Setting, Stepped, AllTold};
+ghost use mathlib.Core.List.{List};
+ghost use Rattle.operation.specs.declared.Operation.{Operation};
+ghost use Rattle.operation.specs.declared.WeylError.{WeylError};
+
+// Operation k on each lane; a measurement's results go to row y of the tile. The number of measurements
+// after it is returned.
+fn perform(
+    v: &mut [u8],
+    tile: &mut [u8],
+    marks: &mut [u8],
+    ops: &[u8],
+    clean: &[u8],
+    k: usize,
+    j: usize,
+    y: usize,
+    d: u8,
+    n: usize,
+) -> usize
+    requires { ⌜ (k < length (now ops) / 4) × Setting d n (now ops) (now clean) × Lanes d n (now v) × (j ≡ measured (operationsOf d n (now ops)) k) × (length (now tile) ≡ 4096) × (length (now marks) ≡ 16) × (y < 16) ⌝ }
+    ensures { λ r. ⌜ Stepped d n (operationsOf d n (now (ops .entry))) (now (clean .entry)) k j y (now (v .entry)) (now (tile .entry)) (now (marks .entry)) (now (v .exit)) (now (tile .exit)) (now (marks .exit)) r × Lanes d n (now (v .exit)) × (length (now (tile .exit)) ≡ 4096) × (length (now (marks .exit)) ≡ 16) ⌝ }
+{
+    if ops[4 * k] == 6 {
+        let q = entries::wide(ops[4 * k + 1]);
+        tile::note(tile, v, y, q, clean[2 * j], d, n);
+        marks[y] = clean[2 * j + 1];
+        return j + 1;
+    }
+    lane_gate::perform(v, ops, k, d, n);
+    j
+}
+
+// A full tile is written to the shots. The number of results that are written is returned. (The length of the loops in `flush` is not
+// told to the compiler: a constant 16 would be unrolled into single bytes.)
+fn settle(
+    out: &mut [u8],
+    tile: &mut [u8],
+    spare: &mut [u8],
+    marks: &[u8],
+    base: usize,
+    j: usize,
+    w: usize,
+    used: usize,
+) -> usize
+    requires { ⌜ (length (now tile) ≡ 4096) × (length (now spare) ≡ 4096) × (length (now marks) ≡ 16) × (used ≤ 256) × (base ≤ j) × (j ≤ base + 16) × (1 + 2 * j ≤ w) × (w < 65536) × (used * w ≤ length (now out)) ⌝ }
+    ensures { λ r. ⌜ ((d n : ℕ) (ops : List Operation) (errors : ℕ → List WeylError) (clean : List ℕ) → Told d n ops errors clean w used base j (now (tile .entry)) (now (marks .entry)) (now (out .entry)) → Told d n ops errors clean w used r j (now (tile .exit)) (now (marks .entry)) (now (out .exit))) × (r ≤ j) × (j < r + 16) × (length (now (tile .exit)) ≡ 4096) × (length (now (spare .exit)) ≡ 4096) × (length (now (out .exit)) ≡ length (now (out .entry))) ⌝ }
+{
+    if base + 16 <= j {
+        let t = j - base;
+        tile::flush(out, tile, spare, marks, base, t, w, used);
+        return j;
+    }
+    base
+}
+
+// All operations, with the errors before and after them: every result of each shot is written, and the lanes hold the final frames.
+pub fn run(
+    out: &mut [u8],
+    v: &mut [u8],
+    slots: &mut [u8],
+    counts: &mut [usize],
+    cursors: &mut [usize],
+    tile: &mut [u8],
+    spare: &mut [u8],
+    marks: &mut [u8],
+    tray: &[u8],
+    starts: &[usize],
+    sizes: &[usize],
+    ops: &[u8],
+    clean: &[u8],
+    w: usize,
+    used: usize,
+    d: u8,
+    n: usize,
+)
+    requires { ⌜ (length (now ops) < 65536) × Setting d n (now ops) (now clean) × Block d n (now tray) (now starts) (now sizes) × Lanes d n (now v) × Empty n (now v) × Filed (laneErrors (now tray) (now starts) (now sizes)) (now slots) (now counts) (now cursors) 0 × (length (now tile) ≡ 4096) × (length (now spare) ≡ 4096) × (length (now marks) ≡ 16) × (used ≤ 256) × (w ≡ 1 + 2 * measured (operationsOf d n (now ops)) (length (operationsOf d n (now ops)))) × (w < 65536) × (used * w ≤ length (now out)) ⌝ }
+    ensures { λ _. ⌜ CarriedAll d n (operationsOf d n (now (ops .entry))) (laneErrors (now (tray .entry)) (now (starts .entry)) (now (sizes .entry))) (now (v .entry)) (now (v .exit)) × Lanes d n (now (v .exit)) × AllTold d n (operationsOf d n (now (ops .entry))) (laneErrors (now (tray .entry)) (now (starts .entry)) (now (sizes .entry))) (now (clean .entry)) w used (now (out .entry)) (now (out .exit)) ⌝ }
+{
+    let count = ops.len() / 4;
+    let mut k = 0;
+    let mut j = 0;
+    let mut base = 0;
+    while k < count {
+        calendar::strike_place(v, slots, counts, cursors, tray, starts, sizes, k, d, n);
+        let y = j - base;
+        j = perform(v, tile, marks, ops, clean, k, j, y, d, n);
+        base = settle(out, tile, spare, marks, base, j, w, used);
+        k += 1;
+    }
+    calendar::strike_place(v, slots, counts, cursors, tray, starts, sizes, k, d, n);
+    let t = j - base;
+    tile::flush(out, tile, spare, marks, base, t, w, used);
+}

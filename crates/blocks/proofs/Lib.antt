@@ -1,0 +1,4 @@
+-- What the blocks rest on.
+pub mod Assignment
+pub mod Rows
+pub mod Filling

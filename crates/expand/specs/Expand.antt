@@ -1,0 +1,24 @@
+-- The rows of shots that have errors, moved to their places among shots that have none.
+use mathlib.Core.Path.{_≡_}
+use mathlib.Core.Bool.{cond}
+use mathlib.Core.List.{List, _∷_}
+use Prim.Native.Nat.{ℕ, _+_, _<_, _≤_}
+use lib.Dec.{eqb}
+use lib.ListN.{length}
+use Rattle.tray.specs.Tray.{lengthAt, noisyAmong}
+use Rattle.tile.specs.Tile.{shotAt}
+
+-- The row of shot first + i: the clean run's bytes if it has no errors, else the next of the rows that were filled.
+abbrev pub rowOf : List ℕ → ℕ → List ℕ → ℕ → List ℕ → ℕ → List ℕ
+rowOf tray first clean w out i = cond (eqb (lengthAt tray (first + i)) 0) (0 ∷ clean) (shotAt w out (noisyAmong tray first i))
+
+-- every one of k rows stands in its place
+pub record Expanded (tray : List ℕ) (first : ℕ) (clean : List ℕ) (w k : ℕ) (out out' : List ℕ) : Type 0 where
+  pub len : length out' ≡ length out
+  pub rows : (i : ℕ) → i < k → shotAt w out' i ≡ rowOf tray first clean w out i
+
+-- the rows from i on stand in their places, and those before are as they were
+pub record Expanding (tray : List ℕ) (first : ℕ) (clean : List ℕ) (w k i : ℕ) (out out' : List ℕ) : Type 0 where
+  pub len : length out' ≡ length out
+  pub rows : (j : ℕ) → i ≤ j → j < k → shotAt w out' j ≡ rowOf tray first clean w out j
+  pub left : (j : ℕ) → j < i → shotAt w out' j ≡ shotAt w out j

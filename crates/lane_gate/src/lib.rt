@@ -1,0 +1,36 @@
+// A gate on the frames of 256 shots, by the code of its entry.
+ghost use mathlib.Core.Path.{_≡_};
+ghost use mathlib.Core.Bool.{true};
+ghost use Prim.Native.Nat.{_/_, _<_, _≤_};
+ghost use lib.ListN.{length};
+ghost use Rattle.modular.specs.Dimension.{listed};
+ghost use Rattle.operation.specs.Gate.{gateFrame};
+ghost use Rattle.circuit.specs.Circuit.{opAt};
+ghost use Rattle.book.specs.Decoded.{operationsOf};
+ghost use Rattle.lanes.specs.Lanes.{Lanes, Each};
+ghost use Rattle.lane_gate.specs.LaneGate.{AllAllowed};
+
+// Operation k on each lane, by its code: the reader has accepted the entry, so nothing is tested again.
+pub fn perform(v: &mut [u8], ops: &[u8], k: usize, d: u8, n: usize)
+    requires { ⌜ (k < length (now ops) / 4) × (n ≤ 64) × (listed d ≡ true) × AllAllowed d n (operationsOf d n (now ops)) × Lanes d n (now v) ⌝ }
+    ensures { λ _. ⌜ Each (gateFrame d n (opAt (operationsOf d n (now (ops .entry))) k)) n (now (v .entry)) (now (v .exit)) × Lanes d n (now (v .exit)) ⌝ }
+{
+    let at = 4 * k;
+    let code = ops[at];
+    let q = entries::wide(ops[at + 1]);
+    let t = entries::wide(ops[at + 2]);
+    let u = ops[at + 3];
+    match code {
+        0 => lanes::fourier_lanes(v, q, d, n),
+        1 => lanes::phase_gate_lanes(v, q, d, n),
+        2 => lanes::sum_lanes(v, q, t, d, n),
+        3 => lanes::cz_lanes(v, q, t, d, n),
+        4 => lanes::swap_lanes(v, q, t, d, n),
+        5 => {
+            let m = modular::reciprocal(d);
+            let w = inverse::inverse(d, u);
+            lanes::multiplier_lanes(v, q, u, w, m, d, n)
+        }
+        _ => {}
+    }
+}

@@ -1,0 +1,3 @@
+-- What the block rests on.
+pub mod Starting
+pub mod Rows

@@ -1,0 +1,112 @@
+-- What a block writes to a shot's bytes is the clean run with its carried frame added.
+-- Assumes nothing.
+use mathlib.Core.Path.{_≡_, refl, sym, ap, ap₂, _∙_}
+use mathlib.Core.Bool.{cond}
+use mathlib.Core.List.{List, [], _∷_}
+use Prim.Native.Nat.{ℕ, zero, suc, _+_, _*_, _/_, _%_, _<_, _≤_}
+use native.Mathlib.Nat.{div-add-mod, mod-lt}
+use native.Mathlib.Decide.{ℕ-discrete}
+use native.Mathlib.Omega.{arith}
+use lib.Dec.{eqb}
+use lib.ListN.{length, getD}
+use lib.Seq.{ext-getD}
+use borrow.Author.Tests.{eq-eqb, ne-eqb}
+use Rattle.row.specs.Row.{tab}
+use Rattle.row.proofs.Fill.{tab-length, tab-get}
+use Rattle.tableau.proofs.Parts.{row-in, part-length}
+use Rattle.operation.specs.declared.Operation.{Operation}
+use Rattle.operation.specs.declared.WeylError.{WeylError}
+use Rattle.circuit.specs.Circuit.{measured}
+use Rattle.run.specs.Direct.{State}
+use Rattle.run.specs.Frame.{noFrame, verdictOf}
+use Rattle.run.specs.Raised.{finalFrame, resultShifts}
+use Rattle.tile.specs.Tile.{shotAt}
+use Rattle.lanes.specs.Lanes.{lane}
+use Rattle.block.specs.Carried.{CarriedAll}
+use Rattle.block.specs.Block.{Empty, AllTold}
+use Rattle.verdicts.specs.Verdicts.{shiftedLanes, Judged, verdictIn}
+use Rattle.shots.specs.Clean.{toldAt, cleanPlus}
+use Rattle.lane_shots.specs.LaneShots.{verdictBy, bytesBy, shiftedBy, ShotRows}
+
+module _ (d n : ℕ) (ops : List Operation) (clean : State) (errors : ℕ → List WeylError) (used : ℕ) (out out' : List ℕ)
+    (h : AllTold d n ops errors (clean .results) (1 + 2 * measured ops (length ops)) used out out') (l : ℕ) (low : l < used)
+    (room : l * (1 + 2 * measured ops (length ops)) + (1 + 2 * measured ops (length ops)) ≤ length out') where
+  abbrev total : ℕ
+  total = measured ops (length ops)
+
+  abbrev shot : List ℕ
+  shot = shotAt (1 + 2 * total) out' l
+
+  abbrev told : ℕ → ℕ
+  told = toldAt d (clean .results) (resultShifts d n ops (errors l) 0 (noFrame n) (length ops))
+
+  byte : (b : ℕ) → b < 2 * total → getD shot (suc b) 0 ≡ told b
+  byte b g = by (ℕ-discrete (b % 2) 0)
+    where
+      by : Dec (b % 2 ≡ 0) → getD shot (suc b) 0 ≡ told b
+      by (yes e) =
+          let q : b ≡ 2 * (b / 2) = omega (arith, div-add-mod b 2) in
+          let p : suc b ≡ 1 + 2 * (b / 2) = omega arith in
+          rw (eq-eqb (b % 2) 0 e)
+          (ap (λ (x : ℕ). getD shot x 0) p ∙ h .outcomes l (b / 2) low (omega (arith, div-add-mod b 2))
+          ∙ ap (λ (x : ℕ). (getD (clean .results) x 0 + getD (resultShifts d n ops (errors l) 0 (noFrame n) (length ops)) (b / 2) 0) % d) (sym q))
+      by (no e) =
+          let two : 0 < 2 = omega arith in
+          let odd : b % 2 ≡ 1 = omega (arith, mod-lt b two) in
+          let q : b ≡ 2 * (b / 2) + 1 = omega (arith, div-add-mod b 2) in
+          let p : suc b ≡ 2 + 2 * (b / 2) = omega arith in
+          rw (ne-eqb (b % 2) 0 e)
+          (ap (λ (x : ℕ). getD shot x 0) p ∙ h .marks-too l (b / 2) low (omega (arith, div-add-mod b 2)) ∙ ap (λ (x : ℕ). getD (clean .results) x 0) (sym q))
+
+  pub row-is : getD shot 0 0 ≡ verdictOf d n (finalFrame d n ops (errors l) (noFrame n)) (clean .rows) → shot ≡ cleanPlus d n ops clean (errors l)
+  unfolding cleanPlus
+  row-is e =
+      let len : length shot ≡ 1 + 2 * total = part-length (l * (1 + 2 * total)) (1 + 2 * total) out' room in
+      let size : length (tab told (2 * total)) ≡ 2 * total = tab-length told (2 * total) in
+      ext-getD 0 _ _ (omega (arith, len, size)) (λ i g. by i (omega (arith, len)))
+    where
+      by : (i : ℕ) → i < 1 + 2 * total
+          → getD shot i 0 ≡ getD (verdictOf d n (finalFrame d n ops (errors l) (noFrame n)) (clean .rows) ∷ tab told (2 * total)) i 0
+      by zero g = e
+      by (suc b) g = let k : b < 2 * total = omega arith in byte b k ∙ sym (tab-get told (2 * total) b 0 k)
+
+-- the lanes after a block, and their verdicts
+module _ (d n : ℕ) (ops : List Operation) (clean : State) (errors : ℕ → List WeylError) (used : ℕ) (v v' : List ℕ)
+    (none : Empty n v) (few : used ≤ 256) (c : CarriedAll d n ops errors v v') where
+  lane-verdict : (l : ℕ) → l < used → verdictIn d n v' (clean .rows) l ≡ verdictBy d n ops clean errors l
+  lane-verdict l g =
+      ap (λ (F : List ℕ). verdictOf d n F (clean .rows)) (c .each l (omega arith) ∙ ap (finalFrame d n ops (errors l)) (none l (omega arith)))
+
+  shifted-lanes : (k : ℕ) → k ≤ used → shiftedLanes d n v' (clean .rows) k ≡ shiftedBy d n ops clean errors k
+  unfolding shiftedLanes shiftedBy
+  shifted-lanes zero g = refl
+  shifted-lanes (suc k) g = ap₂ _+_ (shifted-lanes k (omega arith)) (lane-verdict k (omega arith))
+
+  pub shifted-all : shiftedLanes d n v' (clean .rows) used ≡ shiftedBy d n ops clean errors used
+  shifted-all = shifted-lanes used (omega arith)
+
+  module _ (w : ℕ) (width : w ≡ 1 + 2 * measured ops (length ops)) (out mid out' : List ℕ) (room : used * w ≤ length out)
+      (a : AllTold d n ops errors (clean .results) w used out mid)
+      (j : Judged w used used (verdictIn d n v' (clean .rows)) mid out') where
+    len : length out' ≡ length out
+    len = j .len ∙ a .len
+
+    told-after : AllTold d n ops errors (clean .results) w used out out'
+    told-after =
+        record {
+          len = len;
+          outcomes = λ l i g k. j .rest l (1 + 2 * i) g (omega arith) (omega (arith, width)) ∙ a .outcomes l i g k;
+          marks-too = λ l i g k. j .rest l (2 + 2 * i) g (omega arith) (omega (arith, width)) ∙ a .marks-too l i g k;
+        }
+
+    row-bytes : (l : ℕ) → l < used → shotAt w out' l ≡ bytesBy d n ops clean errors l
+    row-bytes l g =
+        let r : l * w + w ≤ length out' = omega (arith, row-in l used w g, len, room) in
+        wide r told-after (j .first l g ∙ lane-verdict l g)
+      where
+        wide : l * w + w ≤ length out' → AllTold d n ops errors (clean .results) w used out out'
+            → getD (shotAt w out' l) 0 0 ≡ verdictBy d n ops clean errors l → shotAt w out' l ≡ bytesBy d n ops clean errors l
+        wide = rw width (λ r a e. row-is d n ops clean errors used out out' a l g r e)
+
+    pub shot-rows : ShotRows d n ops clean errors w used out out'
+    shot-rows = record { len = len; rows = row-bytes }

@@ -1,0 +1,160 @@
+// Gates and errors on the frames of 256 shots side by side: for each gate what it does to one lane, and a loop over the lanes, which
+// vectorises.
+ghost use mathlib.Core.Path.{_≡_};
+ghost use Prim.Native.Nat.{_*_, _<_, _≤_};
+ghost use lib.ListN.{length};
+ghost use Rattle.modular.specs.Modular.{Reciprocal};
+ghost use Rattle.modular.specs.Dimension.{inverse};
+ghost use Rattle.row.specs.Row.{Powers};
+ghost use Rattle.operation.specs.declared.Operation.the-variants.{Fourier, PhaseGate, Sum, Cz, Swap, Multiplier};
+ghost use Rattle.operation.specs.Gate.{gatePowers};
+ghost use Rattle.operation.specs.Error.{errorFrame};
+ghost use Rattle.lanes.specs.Lanes.{lane, Lanes, Each, Alone};
+use operation::WeylError;
+
+fn fourier_lane(v: &mut [u8], q: usize, l: usize, d: u8, n: usize)
+    requires { ⌜ (n ≤ 64) × (l < 256) × (512 * n ≤ length (now v)) × Powers d n (lane n (now v) l) × (q < n) ⌝ }
+    ensures { λ _. ⌜ Alone (gatePowers d n (Fourier q)) n l (now (v .entry)) (now (v .exit)) ⌝ }
+{
+    let x = 256 * q + l;
+    let z = 256 * (n + q) + l;
+    let a = v[x];
+    let b = v[z];
+    v[x] = modular::negative(d, b);
+    v[z] = a;
+}
+
+pub fn fourier_lanes(v: &mut [u8], q: usize, d: u8, n: usize)
+    requires { ⌜ (n ≤ 64) × Lanes d n (now v) × (q < n) ⌝ }
+    ensures { λ _. ⌜ Each (gatePowers d n (Fourier q)) n (now (v .entry)) (now (v .exit)) ⌝ }
+{
+    for l in 0..256 {
+        fourier_lane(v, q, l, d, n);
+    }
+}
+
+fn phase_gate_lane(v: &mut [u8], q: usize, l: usize, d: u8, n: usize)
+    requires { ⌜ (n ≤ 64) × (l < 256) × (512 * n ≤ length (now v)) × Powers d n (lane n (now v) l) × (q < n) × (d ≤ 31) ⌝ }
+    ensures { λ _. ⌜ Alone (gatePowers d n (PhaseGate q)) n l (now (v .entry)) (now (v .exit)) ⌝ }
+{
+    let x = 256 * q + l;
+    let z = 256 * (n + q) + l;
+    v[z] = modular::add(d, v[z], v[x]);
+}
+
+pub fn phase_gate_lanes(v: &mut [u8], q: usize, d: u8, n: usize)
+    requires { ⌜ (n ≤ 64) × Lanes d n (now v) × (q < n) × (d ≤ 31) ⌝ }
+    ensures { λ _. ⌜ Each (gatePowers d n (PhaseGate q)) n (now (v .entry)) (now (v .exit)) ⌝ }
+{
+    for l in 0..256 {
+        phase_gate_lane(v, q, l, d, n);
+    }
+}
+
+fn sum_lane(v: &mut [u8], c: usize, t: usize, l: usize, d: u8, n: usize)
+    requires { ⌜ (n ≤ 64) × (l < 256) × (512 * n ≤ length (now v)) × Powers d n (lane n (now v) l) × (c < n) × (t < n) × (d ≤ 31) ⌝ }
+    ensures { λ _. ⌜ Alone (gatePowers d n (Sum c t)) n l (now (v .entry)) (now (v .exit)) ⌝ }
+{
+    let xc = 256 * c + l;
+    let xt = 256 * t + l;
+    let zc = 256 * (n + c) + l;
+    let zt = 256 * (n + t) + l;
+    let x = modular::add(d, v[xt], v[xc]);
+    let z = modular::subtract(d, v[zc], v[zt]);
+    v[zc] = z;
+    v[xt] = x;
+}
+
+pub fn sum_lanes(v: &mut [u8], c: usize, t: usize, d: u8, n: usize)
+    requires { ⌜ (n ≤ 64) × Lanes d n (now v) × (c < n) × (t < n) × (d ≤ 31) ⌝ }
+    ensures { λ _. ⌜ Each (gatePowers d n (Sum c t)) n (now (v .entry)) (now (v .exit)) ⌝ }
+{
+    for l in 0..256 {
+        sum_lane(v, c, t, l, d, n);
+    }
+}
+
+fn cz_lane(v: &mut [u8], c: usize, t: usize, l: usize, d: u8, n: usize)
+    requires { ⌜ (n ≤ 64) × (l < 256) × (512 * n ≤ length (now v)) × Powers d n (lane n (now v) l) × (c < n) × (t < n) × (d ≤ 31) ⌝ }
+    ensures { λ _. ⌜ Alone (gatePowers d n (Cz c t)) n l (now (v .entry)) (now (v .exit)) ⌝ }
+{
+    let xc = 256 * c + l;
+    let xt = 256 * t + l;
+    let zc = 256 * (n + c) + l;
+    let zt = 256 * (n + t) + l;
+    let b = modular::add(d, v[zc], v[xt]);
+    let z = modular::add(d, v[zt], v[xc]);
+    v[zc] = b;
+    v[zt] = z;
+}
+
+pub fn cz_lanes(v: &mut [u8], c: usize, t: usize, d: u8, n: usize)
+    requires { ⌜ (n ≤ 64) × Lanes d n (now v) × (c < n) × (t < n) × (d ≤ 31) ⌝ }
+    ensures { λ _. ⌜ Each (gatePowers d n (Cz c t)) n (now (v .entry)) (now (v .exit)) ⌝ }
+{
+    for l in 0..256 {
+        cz_lane(v, c, t, l, d, n);
+    }
+}
+
+fn swap_lane(v: &mut [u8], c: usize, t: usize, l: usize, d: u8, n: usize)
+    requires { ⌜ (n ≤ 64) × (l < 256) × (512 * n ≤ length (now v)) × Powers d n (lane n (now v) l) × (c < n) × (t < n) ⌝ }
+    ensures { λ _. ⌜ Alone (gatePowers d n (Swap c t)) n l (now (v .entry)) (now (v .exit)) ⌝ }
+{
+    let xc = 256 * c + l;
+    let xt = 256 * t + l;
+    let zc = 256 * (n + c) + l;
+    let zt = 256 * (n + t) + l;
+    let a = v[xc];
+    let x = v[xt];
+    let b = v[zc];
+    let z = v[zt];
+    v[xc] = x;
+    v[zc] = z;
+    v[xt] = a;
+    v[zt] = b;
+}
+
+pub fn swap_lanes(v: &mut [u8], c: usize, t: usize, d: u8, n: usize)
+    requires { ⌜ (n ≤ 64) × Lanes d n (now v) × (c < n) × (t < n) ⌝ }
+    ensures { λ _. ⌜ Each (gatePowers d n (Swap c t)) n (now (v .entry)) (now (v .exit)) ⌝ }
+{
+    for l in 0..256 {
+        swap_lane(v, c, t, l, d, n);
+    }
+}
+
+fn multiplier_lane(v: &mut [u8], q: usize, u: u8, w: u8, m: u16, l: usize, d: u8, n: usize)
+    requires { ⌜ (n ≤ 64) × (l < 256) × (512 * n ≤ length (now v)) × Powers d n (lane n (now v) l) × (q < n) × (u < d) × (w ≡ inverse d u) × (w < d) × Reciprocal d m ⌝ }
+    ensures { λ _. ⌜ Alone (gatePowers d n (Multiplier q u)) n l (now (v .entry)) (now (v .exit)) ⌝ }
+{
+    let x = 256 * q + l;
+    let z = 256 * (n + q) + l;
+    let a = modular::mul(d, m, v[x], u);
+    let b = modular::mul(d, m, v[z], w);
+    v[x] = a;
+    v[z] = b;
+}
+
+pub fn multiplier_lanes(v: &mut [u8], q: usize, u: u8, w: u8, m: u16, d: u8, n: usize)
+    requires { ⌜ (n ≤ 64) × Lanes d n (now v) × (q < n) × (u < d) × (w ≡ inverse d u) × (w < d) × Reciprocal d m ⌝ }
+    ensures { λ _. ⌜ Each (gatePowers d n (Multiplier q u)) n (now (v .entry)) (now (v .exit)) ⌝ }
+{
+    for l in 0..256 {
+        multiplier_lane(v, q, u, w, m, l, d, n);
+    }
+}
+
+// The error on lane l.
+pub fn error_lane(v: &mut [u8], e: WeylError, l: usize, d: u8, n: usize)
+    requires { ⌜ (n ≤ 64) × (l < 256) × (512 * n ≤ length (now v)) × Powers d n (lane n (now v) l) × (d ≤ 31) × (e .qudit < n) × (e .p < d) × (e .s < d) ⌝ }
+    ensures { λ _. ⌜ Alone (errorFrame d n e) n l (now (v .entry)) (now (v .exit)) ⌝ }
+{
+    let q = e.qudit;
+    let at = 256 * q + l;
+    let bt = 256 * (n + q) + l;
+    let x = modular::add(d, v[at], e.p);
+    let z = modular::add(d, v[bt], e.s);
+    v[at] = x;
+    v[bt] = z;
+}

@@ -1,0 +1,88 @@
+-- What a tray of shots fills and returns: exactly as separate frame runs would.
+use mathlib.Core.Bool.{Bool, cond, _&&_}
+use mathlib.Core.List.{List, [], _∷_}
+use Prim.Native.Nat.{ℕ, zero, suc, _+_, _*_}
+use lib.Dec.{eqb, leb}
+use lib.ListN.{length, replicate}
+use Rattle.search.specs.declared.Place.{Place}
+use Rattle.search.specs.declared.Place.the-variants.{At, Nowhere}
+use Rattle.search.specs.Search.{unless}
+use Rattle.tableau.specs.Tableau.{eachRow}
+use Rattle.validity.specs.Validity.{valid}
+use Rattle.operation.specs.declared.Operation.{Operation}
+use Rattle.operation.specs.declared.WeylError.{WeylError}
+use Rattle.circuit.specs.Circuit.{measured}
+use Rattle.body.specs.Body.{Told, refused, accepted}
+use Rattle.book.specs.Book.{readBook, bodyOf}
+use Rattle.book.specs.Decoded.{operationsOf, errorsOf, measurementsIn}
+use Rattle.run.specs.Frame.{Ended, frameRun}
+use Rattle.tray.specs.Tray.{shotsIn, shotBody, tabled, badShot}
+
+-- Per shot one verdict byte, and then 2 bytes per measurement.
+abbrev pub shotBytes : Ended → List ℕ
+shotBytes end = end .verdict ∷ end .results
+
+-- The circuit's choices serve every shot, and the starting tableau t is used anew for each.
+module _ (d n : ℕ) (ops : List Operation) (choices t : List ℕ) where
+  abbrev pub shotRun : List WeylError → Ended
+  shotRun errors =
+      frameRun d n ops errors choices (record { rows = t; results = replicate (2 * measured ops (length ops)) 0 }) [] []
+
+  module _ (tray : List ℕ) where
+    abbrev pub runOf : ℕ → Ended
+    runOf i = shotRun (errorsOf (shotBody tray i))
+
+    unfoldable pub shotRow : ℕ → List ℕ → List ℕ
+    shotRow i v = shotBytes (runOf i)
+
+    -- the first k shots, in the lent buffer
+    abbrev pub filledBy : List ℕ → ℕ → List ℕ
+    filledBy out k = eachRow shotRow (1 + 2 * measured ops (length ops)) out k
+
+    -- how many of the first k were clean, and how many shifted
+    unfoldable pub cleanAmong : ℕ → ℕ
+    cleanAmong zero = 0
+    cleanAmong (suc k) = cleanAmong k + cond (eqb (runOf k .verdict) 0) 1 0
+
+    unfoldable pub shiftedAmong : ℕ → ℕ
+    shiftedAmong zero = 0
+    shiftedAmong (suc k) = shiftedAmong k + cond (eqb (runOf k .verdict) 0) 0 1
+
+-- the three numbers, and what is left in the lent buffer; the tableau keeps its bytes
+pub record TrayLeft : Type 0 where
+  pub number : ℕ
+  pub place : ℕ
+  pub shifted : ℕ
+  pub out : List ℕ
+
+abbrev pub turnedAway : ℕ → ℕ → List ℕ → TrayLeft
+turnedAway number place out = record { number = number; place = place; shifted = 0; out = out }
+
+unfoldable pub trayRoomy : ℕ → ℕ → ℕ → List ℕ → List ℕ → Bool
+trayRoomy n measurements shots t out = leb (2 * n * (2 * n + 1)) (length t) && leb (shots * (1 + 2 * measurements)) (length out)
+
+abbrev pub shotsTold : ℕ → ℕ → List Operation → List ℕ → List ℕ → List ℕ → List ℕ → TrayLeft
+shotsTold d n ops choices tray t out =
+    record {
+      number = 0;
+      place = cleanAmong d n ops choices t tray (shotsIn tray);
+      shifted = shiftedAmong d n ops choices t tray (shotsIn tray);
+      out = filledBy d n ops choices t tray out (shotsIn tray);
+    }
+
+abbrev pub at6 : Place → List ℕ → TrayLeft → TrayLeft
+at6 (At shot) out rest = turnedAway 6 shot out
+at6 Nowhere out rest = rest
+
+-- 1 to 7 of the book, its own errors checked but not used; then 11, the tray's 6, 8 and 9
+unfoldable pub trayTold : List ℕ → List ℕ → List ℕ → List ℕ → Told → TrayLeft
+trayTold s tray t out (refused number place) = turnedAway number place out
+trayTold s tray t out (accepted d n operations errors choices) =
+    unless (tabled tray) (turnedAway 11 0 out)
+    (at6 (badShot d n operations tray) out
+    (unless (trayRoomy n (measurementsIn s d n) (shotsIn tray) t out) (turnedAway 8 0 out)
+    (unless (valid d n t) (turnedAway 9 0 out)
+    (shotsTold d n (operationsOf d n (bodyOf s 1)) (bodyOf s 3) tray t out))))
+
+unfoldable pub trayBook : List ℕ → List ℕ → List ℕ → List ℕ → TrayLeft
+trayBook s tray t out = trayTold s tray t out (readBook s)

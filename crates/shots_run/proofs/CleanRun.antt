@@ -1,0 +1,172 @@
+-- The clean run, as the blocks take it.
+-- Assumes nothing.
+use mathlib.Core.Path.{_≡_, refl, sym, ap, ap₂, subst, _∙_}
+use mathlib.Core.List.{List, []}
+use Prim.Native.Nat.{ℕ, zero, suc, _+_, _*_, _≤_, _<_}
+use native.Mathlib.Nat.{le-refl}
+use native.Mathlib.Omega.{arith}
+use lib.ListN.{length, getD, take, replicate}
+use Rattle.modular.proofs.Listed.{dimension}
+use Rattle.row.specs.Row.{tab}
+use Rattle.tableau.specs.Tableau.{part}
+use Rattle.tableau.proofs.Parts.{part-length, part-at}
+use Rattle.operation.specs.declared.Operation.{Operation}
+use Rattle.circuit.specs.Circuit.{opAt, Kind, gate, measures, kind, tallyKind, measured, Accepted}
+use Rattle.validity.specs.Validity.{Valid}
+use Rattle.validity.proofs.Exactly.{valid-tableau}
+use Rattle.outcome.specs.declared.Look.{Look}
+use Rattle.outcome.specs.declared.Look.the-variants.{Free, Certain}
+use Rattle.outcome.specs.Look.{look}
+use Rattle.measure.proofs.Seen.{look-fits}
+use Rattle.book.specs.Decoded.{operationsOf, errorsOf, Bodies}
+use Rattle.run.specs.Run.{onward}
+use Rattle.run.specs.Direct.{State, directLook, directKind, directStrike, directStep, directRun}
+use Rattle.run.proofs.Results.{measured-before, noted-length}
+use Rattle.carrying.proofs.Books.{choice-in}
+use Rattle.carrying.proofs.Told.{Told, told-none, told-more}
+use Rattle.carrying.proofs.Window.{Window, window-of, valid-window}
+use Rattle.carrying.proofs.Sound.{run-keeps-valid}
+use Rattle.direct.specs.DirectBook.{Left, directBodies}
+use Rattle.shots.specs.Clean.{cleanRun}
+use Rattle.lane_shots.specs.LaneShots.{blank, Fits, shiftedBy}
+use Rattle.lane_shots.proofs.Starting.{blank-length}
+use Rattle.blocks.specs.Blocks.{shotErrors, Loaded, Filled}
+use Rattle.shots_run.specs.Ready.{Ready}
+
+abbrev Low : ℕ → ℕ → ℕ → ℕ → Type 0
+Low d j x y = x < d
+
+-- every outcome of a direct run without errors is below d
+module _ (d n : ℕ) (low : 0 < d) (ops : List Operation) (choices : List ℕ) (ac : Accepted d n ops [] choices) where
+  abbrev total : ℕ
+  total = measured ops (length ops)
+
+  low-kind : (k : ℕ) → k < length ops → (t out : List ℕ) → Told (Low d) total (measured ops k) out out → (x : Kind) → kind (opAt ops k) ≡ x
+      → Told (Low d) total (measured ops k + tallyKind x)
+      (directKind d n choices (measured ops k) (record { rows = t; results = out }) (opAt ops k) x .results)
+      (directKind d n choices (measured ops k) (record { rows = t; results = out }) (opAt ops k) x .results)
+  unfolding directKind directLook
+  low-kind k l t out a gate e = let q : measured ops k + 0 ≡ measured ops k = omega arith in rw q a
+  low-kind k l t out a (measures q) e = by (look d n t q) refl
+    where
+      j : ℕ
+      j = measured ops k
+
+      by : (x : Look) → look d n t q ≡ x
+          → Told (Low d) total (j + 1) (directLook d n choices j q (record { rows = t; results = out }) x .results)
+          (directLook d n choices j q (record { rows = t; results = out }) x .results)
+      by (Free i) y = told-more (Low d) total j _ _ 1 (measured-before ops k (length ops) q l e) (choice-in ac k q l e) a
+      by (Certain outcome) y = told-more (Low d) total j _ _ 0 (measured-before ops k (length ops) q l e) (look-fits d n t q low y) a
+
+  low-step : (k : ℕ) → k < length ops → (A : State) → Told (Low d) total (measured ops k) (A .results) (A .results)
+      → Told (Low d) total (measured ops (suc k)) (directStep d n ops [] choices k A .results) (directStep d n ops [] choices k A .results)
+  unfolding measured directStep directStrike
+  low-step k l A a = low-kind k l _ _ a (kind (opAt ops k)) refl
+
+  low-onward : (A : State) → Told (Low d) total 0 (A .results) (A .results) → (count : ℕ) → count ≤ length ops
+      → Told (Low d) total (measured ops count) (onward (directStep d n ops [] choices) 0 A count .results)
+      (onward (directStep d n ops [] choices) 0 A count .results)
+  unfolding onward measured
+  low-onward A a zero l = a
+  low-onward A a (suc m) l = let q : 0 + m ≡ m = omega arith in rw q (low-step m l _ (low-onward A a m (omega arith)))
+
+  pub low-run : (A : State) → 2 * total ≤ length (A .results)
+      → Told (Low d) total total (directRun d n ops [] choices A .results) (directRun d n ops [] choices A .results)
+  unfolding directRun directStrike
+  low-run A room = low-onward A (told-none (Low d) total room room) (length ops) (le-refl (length ops))
+
+-- A direct run keeps the length of the results.
+module _ (d n : ℕ) (ops : List Operation) (choices : List ℕ) where
+  long-look : (j q : ℕ) (st : State) (x : Look) → length (directLook d n choices j q st x .results) ≡ length (st .results)
+  unfolding directLook
+  long-look j q st (Free k) = noted-length (st .results) j _ _
+  long-look j q st (Certain outcome) = noted-length (st .results) j _ _
+
+  long-kind : (j : ℕ) (st : State) (op : Operation) (x : Kind) → length (directKind d n choices j st op x .results) ≡ length (st .results)
+  unfolding directKind
+  long-kind j st op gate = refl
+  long-kind j st op (measures q) = long-look j q st (look d n (st .rows) q)
+
+  long-onward : (st : State) (count : ℕ) → length (onward (directStep d n ops [] choices) 0 st count .results) ≡ length (st .results)
+  unfolding onward directStep directStrike
+  long-onward st zero = refl
+  long-onward st (suc count) =
+      long-kind (measured ops (0 + count)) _ (opAt ops (0 + count)) (kind (opAt ops (0 + count))) ∙ long-onward st count
+
+  run-length : (st : State) → length (directRun d n ops [] choices st .results) ≡ length (st .results)
+  unfolding directRun directStrike
+  run-length st = long-onward st (length ops)
+
+-- the copied tableau
+module _ (n : ℕ) (t : List ℕ) (room : 2 * n * (2 * n + 1) ≤ length t) where
+  abbrev copied : List ℕ
+  copied = part 0 (2 * n * (2 * n + 1)) t
+
+  pub copied-length : length copied ≡ 2 * n * (2 * n + 1)
+  copied-length = part-length 0 (2 * n * (2 * n + 1)) t (omega arith)
+
+  pub window : Window n t copied
+  window =
+      window-of n room (omega (arith, copied-length))
+      (λ i l. let q : 0 + i ≡ i = omega arith in sym (part-at 0 (2 * n * (2 * n + 1)) t i l ∙ ap (λ (x : ℕ). getD t x 0) q))
+
+module _ {d n : ℕ} {tray t ops choices : List ℕ} (h : Ready d n tray t ops choices) where
+  pub copied-valid : Valid d n (part 0 (2 * n * (2 * n + 1)) t)
+  copied-valid = valid-window n (window n t (h .tableau .room)) (h .tableau)
+
+  pub fits : let clean = cleanRun d n (operationsOf d n ops) choices (part 0 (2 * n * (2 * n + 1)) t) in
+      Fits d n ops (clean .results) (clean .rows) (1 + 2 * length choices)
+  fits =
+      let dim = dimension d (h .dimension) in
+      let one = h .circuit .one-each in
+      let told = low-run d n (omega (arith, dim .low)) (operationsOf d n ops) choices (h .circuit) (record { rows = part 0 (2 * n * (2 * n + 1)) t; results = blank (2 * measured (operationsOf d n ops) (length (operationsOf d n ops))) }) (omega (arith, blank-length (2 * measured (operationsOf d n ops) (length (operationsOf d n ops))))) in
+      let exact = run-length d n (operationsOf d n ops) choices (record { rows = part 0 (2 * n * (2 * n + 1)) t; results = blank (2 * measured (operationsOf d n ops) (length (operationsOf d n ops))) }) ∙ blank-length (2 * measured (operationsOf d n ops) (length (operationsOf d n ops))) in
+      record {
+        setting = record { dimension = h .dimension; qudits = h .qudits; operations = h .circuit .operations; room = told .room; below = told .outcome };
+        tableau = valid-tableau d n _ (run-keeps-valid d n dim (operationsOf d n ops) [] choices (h .circuit) _ copied-valid);
+        few = h .few;
+        exact = exact;
+        width = omega (arith, one);
+        narrow = omega (arith, h .short);
+      }
+
+  pub loaded : Loaded d n tray
+  loaded = record { lies = h .lies; strikes = λ i l. h .errors i l .strikes; shots = h .shots }
+
+  pub bodies : Bodies d n ops (take 0 ops) choices
+  unfolding errorsOf tab
+  bodies = record { dimension = h .dimension; qudits = h .qudits; lists = h .circuit }
+
+  -- what the copy and its results hold after the clean run
+  module _ (copy₀ copy copy' results results' : List ℕ) (number place : ℕ) (size : length copy₀ ≡ 2 * n * (2 * n + 1)) (e : copy ≡ take (length copy₀) t)
+      (f : results ≡ blank (2 * length choices))
+      (g : record { number = number; place = place; tableau = copy'; results = results' }
+      ≡ directBodies d n ops (take 0 ops) choices (record { rows = copy; results = results })) where
+    abbrev clean : State
+    clean = cleanRun d n (operationsOf d n ops) choices (part 0 (2 * n * (2 * n + 1)) t)
+
+    begins : _≡_ {A = State} (record { rows = copy; results = results })
+        (record { rows = part 0 (2 * n * (2 * n + 1)) t; results = replicate (2 * measured (operationsOf d n ops) (length (operationsOf d n ops))) 0 })
+    unfolding part
+    begins =
+        ap₂ (λ (a b : List ℕ). let st : State = record { rows = a; results = b } in st) (e ∙ ap (λ (x : ℕ). take x t) size)
+        (f ∙ ap (λ (x : ℕ). blank (2 * x)) (h .circuit .one-each))
+
+    pub is-clean : _≡_ {A = State} (record { rows = copy'; results = results' }) clean
+    unfolding errorsOf tab
+    is-clean =
+        ap (λ (x : Left). let st : State = record { rows = x .tableau; results = x .results } in st) g
+        ∙ ap (λ (x : State). directRun d n (operationsOf d n ops) [] choices x) begins
+
+    pub fits-told : Fits d n ops results' copy' (1 + 2 * length choices)
+    fits-told =
+        let a : copy' ≡ clean .rows = ap (λ (x : State). x .rows) is-clean in
+        let b : results' ≡ clean .results = ap (λ (x : State). x .results) is-clean in
+        rw (a, b) fits
+
+    pub told : {w k r : ℕ} {out out' : List ℕ}
+        → Filled d n (operationsOf d n ops) (record { rows = copy'; results = results' }) (shotErrors tray) w 0 k out out'
+        × (r ≡ shiftedBy d n (operationsOf d n ops) (record { rows = copy'; results = results' }) (shotErrors tray) k)
+        → Filled d n (operationsOf d n ops) clean (shotErrors tray) w 0 k out out' × (r ≡ shiftedBy d n (operationsOf d n ops) clean (shotErrors tray) k)
+    told {w} {k} {r} {out} {out'} a =
+        subst (λ (x : State). Filled d n (operationsOf d n ops) x (shotErrors tray) w 0 k out out' × (r ≡ shiftedBy d n (operationsOf d n ops) x (shotErrors tray) k)) is-clean a

@@ -1,0 +1,3 @@
+-- What a tray run rests on.
+pub mod CleanRun
+pub mod Separate

@@ -1,0 +1,85 @@
+-- `run` meets its contract.
+-- Assumes nothing.
+use native.Mathlib.Omega.{arith}
+use borrow.Author.Needs.{needs}
+use mathlib.Core.Path.{_≡_, refl, sym, ap}
+use mathlib.Core.List.{_∷_}
+use Prim.Native.Nat.{ℕ, zero, suc, _+_, _*_, _≤_}
+use native.Mathlib.Nat.{le-of-suc-le-suc}
+use denote.Ref.{now}
+use lib.ListN.{length, take, replicate}
+use lib.Seq.{length-take-le}
+use Rattle.tableau.proofs.Sized.{sized-bytes}
+use Rattle.lane_shots.specs.LaneShots.{blank}
+use Rattle.lane_shots.proofs.Starting.{blank-length}
+use Rattle.shots_run.proofs.Separate.{told-by}
+use Rattle.shots_run.proofs.run.Statement.{statement}
+use Rattle.shots_run.proofs.run.Tie as tie
+
+take-replicate : {A : Type 0} (a : A) (k m : ℕ) → k ≤ m → take k (replicate m a) ≡ replicate k a
+take-replicate a zero m h = refl
+take-replicate a (suc k) zero h = absurd (omega arith)
+take-replicate a (suc k) (suc m) h = ap (_∷_ a) (take-replicate a k m (le-of-suc-le-suc h))
+
+mul-size : tie.Need-mul-size
+mul-size c = search needs
+
+mul-size-2 : tie.Need-mul-size-2
+mul-size-2 c = search needs
+
+add-size : tie.Need-add-size
+add-size c = search needs
+
+mul-size-3 : tie.Need-mul-size-3
+mul-size-3 c = search needs
+
+mul-bytes : tie.Need-mul-bytes
+mul-bytes c = search needs
+
+array-borrow-prefix-copy : tie.Need-array-borrow-prefix-copy
+array-borrow-prefix-copy c = let o = c .before .before .before .before .before .before in omega (arith, sized-bytes (o .args .n) (o .pre .0 .qudits))
+
+slice-aggregate-run-in : tie.Need-slice-aggregate-run-in
+slice-aggregate-run-in c =
+    let o = c .before .before .before .before .before .before .before in
+    sym (length-take-le (2 * o .args .n * (2 * o .args .n + 1)) (blank 16512) (omega (arith, sized-bytes (o .args .n) (o .pre .0 .qudits), blank-length 16512)))
+
+array-borrow-prefix-results : tie.Need-array-borrow-prefix-results
+array-borrow-prefix-results c = let o = c .before .before .before .before .before .before .before in omega (arith, o .pre .0 .short)
+
+slice-aggregate-run-in-2 : tie.Need-slice-aggregate-run-in-2
+slice-aggregate-run-in-2 c =
+    let o = c .before .before .before .before .before .before .before .before in
+    sym (length-take-le (2 * length (now (o .args .choices))) (blank 8192) (omega (arith, o .pre .0 .short, blank-length 8192)))
+
+run-in-requires : tie.Need-run-in-requires
+run-in-requires c κs =
+    let o = c .before .before .before .before .before .before .before .before in (
+      o .pre .0,
+      length-take-le (2 * o .args .n * (2 * o .args .n + 1)) (blank 16512) (omega (arith, sized-bytes (o .args .n) (o .pre .0 .qudits), blank-length 16512)),
+      take-replicate 0 (2 * length (now (o .args .choices))) 8192 (omega (arith, o .pre .0 .short)),
+      o .pre .1,
+    )
+
+same-length : tie.Need-same-length
+same-length c = search needs
+
+returns : tie.Need-returns
+returns c = let o = c .before .before .before .before .before .before .before .before .before .before .before .before .before in told-by (o .pre .0) (o .pre .1) (c .before .before .before .before .run-in .ensures)
+
+pub run-spec : {M : Type 1} → statement M
+run-spec =
+    tie.close
+    (tie.spec
+    mul-size
+    mul-size-2
+    add-size
+    mul-size-3
+    mul-bytes
+    array-borrow-prefix-copy
+    slice-aggregate-run-in
+    array-borrow-prefix-results
+    slice-aggregate-run-in-2
+    run-in-requires
+    same-length
+    returns)

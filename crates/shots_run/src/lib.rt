@@ -1,0 +1,70 @@
+// A tray of shots: one clean run on a copy of the tableau, then the shots in blocks.
+ghost use mathlib.Core.Path.{_≡_};
+ghost use mathlib.Core.List.{[]};
+ghost use Prim.Native.Nat.{_+_, _*_, _≤_};
+ghost use lib.ListN.{length};
+ghost use Rattle.tableau.specs.Tableau.{part};
+ghost use Rattle.book.specs.Decoded.{operationsOf};
+ghost use Rattle.tray.specs.Tray.{shotsIn};
+ghost use Rattle.shots.specs.Shots.{filledBy, shiftedAmong};
+ghost use Rattle.shots.specs.Clean.{cleanRun};
+ghost use Rattle.lane_shots.specs.LaneShots.{blank, shiftedBy};
+ghost use Rattle.blocks.specs.Blocks.{shotErrors, Filled};
+ghost use Rattle.shots_run.specs.Ready.{Ready};
+
+// The clean run in lent buffers, which begin as a copy's room and as no results; then every shot. How many are shifted is returned.
+fn run_in(
+    out: &mut [u8],
+    copy: &mut [u8],
+    results: &mut [u8],
+    tray: &[u8],
+    t: &[u8],
+    ops: &[u8],
+    choices: &[u8],
+    d: u8,
+    n: usize,
+) -> usize
+    requires { ⌜ Ready d n (now tray) (now t) (now ops) (now choices)
+        × (length (now copy) ≡ 2 * n * (2 * n + 1))
+        × (now results ≡ blank (2 * length (now choices)))
+        × (shotsIn (now tray) * (1 + 2 * length (now choices)) ≤ length (now out)) ⌝ }
+    ensures { λ r. ⌜ Filled d n (operationsOf d n (now (ops .entry))) (cleanRun d n (operationsOf d n (now (ops .entry))) (now (choices .entry)) (part 0 (2 * n * (2 * n + 1)) (now (t .entry)))) (shotErrors (now (tray .entry))) (1 + 2 * length (now (choices .entry))) 0 (shotsIn (now (tray .entry))) (now (out .entry)) (now (out .exit))
+        × (r ≡ shiftedBy d n (operationsOf d n (now (ops .entry))) (cleanRun d n (operationsOf d n (now (ops .entry))) (now (choices .entry)) (part 0 (2 * n * (2 * n + 1)) (now (t .entry)))) (shotErrors (now (tray .entry))) (shotsIn (now (tray .entry)))) ⌝ }
+{
+    let size = copy.len();
+    tableau::copy(copy, &t[..size]);
+    direct::run(copy, results, ops, &ops[..0], choices, d, n);
+    blocks::fill(out, tray, ops, results, copy, 1 + 2 * choices.len(), d, n)
+}
+
+// The same with room for the copy and the clean results: the buffer holds what separate frame runs would fill it with.
+pub fn run(
+    out: &mut [u8],
+    tray: &[u8],
+    t: &[u8],
+    ops: &[u8],
+    choices: &[u8],
+    d: u8,
+    n: usize,
+) -> usize
+    requires { ⌜ Ready d n (now tray) (now t) (now ops) (now choices)
+        × (shotsIn (now tray) * (1 + 2 * length (now choices)) ≤ length (now out)) ⌝ }
+    ensures { λ r. ⌜ (now (out .exit) ≡ filledBy d n (operationsOf d n (now (ops .entry))) (now (choices .entry)) (now (t .entry)) (now (tray .entry)) (now (out .entry)) (shotsIn (now (tray .entry))))
+        × (r ≡ shiftedAmong d n (operationsOf d n (now (ops .entry))) (now (choices .entry)) (now (t .entry)) (now (tray .entry)) (shotsIn (now (tray .entry)))) ⌝ }
+{
+    let mut copy = [0u8; 16512];
+    let mut results = [0u8; 8192];
+    let size = 2 * n * (2 * n + 1);
+    let bytes = 2 * choices.len();
+    run_in(
+        out,
+        &mut copy[..size],
+        &mut results[..bytes],
+        tray,
+        t,
+        ops,
+        choices,
+        d,
+        n,
+    )
+}

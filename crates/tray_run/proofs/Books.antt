@@ -1,0 +1,106 @@
+-- The tray run of an accepted book, by the tests of tray, buffers and tableau.
+-- Assumes nothing.
+use mathlib.Core.Path.{_≡_, sym, ap, _∙_}
+use mathlib.Core.Bool.{Bool, true, false, not}
+use mathlib.Core.List.{List}
+use Prim.Native.Nat.{ℕ, _+_, _-_, _*_, _≤_}
+use native.Mathlib.Omega.{arith}
+use lib.Dec.{leb}
+use lib.ListN.{length}
+use borrow.Author.Tests.{leb-true, not-true, not-false}
+use Rattle.modular.proofs.Listed.{dimension}
+use Rattle.search.specs.declared.Place.the-variants.{At, Nowhere}
+use Rattle.search.proofs.Search.{both}
+use Rattle.validity.specs.Validity.{valid}
+use Rattle.validity.proofs.Exactly.{valid-exactly}
+use Rattle.body.specs.declared.Numbers.{Numbers}
+use Rattle.body.specs.declared.Reading.{Reading}
+use Rattle.body.specs.declared.Reading.the-variants.{Accepted as Taken}
+use Rattle.body.specs.Body.{accepted, told}
+use Rattle.book.specs.Book.{partOf, readBook}
+use Rattle.book.specs.Decoded.{operationsOf}
+use Rattle.book.proofs.Handed.{Handed, handed}
+use Rattle.tray.specs.Tray.{shotsIn, tabled, badShot}
+use Rattle.tray.proofs.Tabled.{tabled-says}
+use Rattle.shots.specs.Shots.{cleanAmong, shiftedAmong, filledBy, TrayLeft, turnedAway, trayRoomy, trayTold, trayBook}
+use Rattle.shots.proofs.Rows.{counts-are}
+use Rattle.shots_run.specs.Ready.{Ready}
+use Rattle.tray_run.proofs.Ready.{few-choices, ready}
+
+-- what a branch on a test's answer knows of the test
+module _ {answer test : Bool} (e : answer ≡ test) where
+  pub failed : not answer ≡ true → test ≡ false
+  failed h = sym e ∙ not-true answer h
+
+  pub held : not answer ≡ false → test ≡ true
+  held h = sym e ∙ not-false answer h
+
+-- an accepted book: the reader's answer, and what is handed to the run
+pub record Opened (s : List ℕ) (b : Numbers) : Type 0 where
+  pub reads : readBook s ≡ accepted (b .d) (b .n) (b .operations) (b .errors) (b .choices)
+  pub hands : Handed s (b .d) (b .n) (b .choices)
+
+pub opened : (s : List ℕ) {reading : Reading} {b : Numbers} → told reading ≡ readBook s → reading ≡ Taken b → Opened s b
+opened s e f = record { reads = sym e ∙ ap told f; hands = handed s e f }
+
+module _ {s : List ℕ} {b : Numbers} (book : Opened s b) (tray t out : List ℕ) where
+  abbrev d : ℕ
+  d = b .d
+
+  abbrev n : ℕ
+  n = b .n
+
+  abbrev g : Handed s d n (b .choices)
+  g = book .hands
+
+  -- 11
+  pub bad-table : tabled tray ≡ false → turnedAway 11 0 out ≡ trayBook s tray t out
+  unfolding trayBook trayTold
+  bad-table e = rw (book .reads, e)
+
+  module _ (table : tabled tray ≡ true) where
+    -- 6
+    pub bad-tray : {i : ℕ} → badShot d n (b .operations) tray ≡ At i → turnedAway 6 i out ≡ trayBook s tray t out
+    unfolding trayBook trayTold
+    bad-tray e = rw (book .reads, table, e)
+
+    pub sizes : (n ≤ 64) × (b .choices ≤ 4096) × (shotsIn tray ≤ 4096)
+    sizes = (g .qudits, omega (arith, few-choices s g, g .room), tabled-says tray table .few)
+
+    module _ (good : badShot d n (b .operations) tray ≡ Nowhere) where
+      -- 8
+      pub short-book : trayRoomy n (b .choices) (shotsIn tray) t out ≡ false → turnedAway 8 0 out ≡ trayBook s tray t out
+      unfolding trayBook trayTold
+      short-book e = rw (book .reads, table, good, g .measurements, e)
+
+      module _ (roomy : trayRoomy n (b .choices) (shotsIn tray) t out ≡ true) where
+        pub rooms : (2 * n * (2 * n + 1) ≤ length t) × (shotsIn tray * (1 + 2 * length (partOf s 16)) ≤ length out)
+        unfolding trayRoomy
+        rooms =
+            let c = both (leb (2 * n * (2 * n + 1)) (length t)) (leb (shotsIn tray * (1 + 2 * b .choices)) (length out)) roomy in
+            (leb-true _ _ (c .0), rw (g .room) (leb-true _ _ (c .1)))
+
+        -- 9
+        pub invalid-book : valid d n t ≡ false → turnedAway 9 0 out ≡ trayBook s tray t out
+        unfolding trayBook trayTold
+        invalid-book e = rw (book .reads, table, good, g .measurements, roomy, e)
+
+        module _ (tested : valid d n t ≡ true) where
+          pub given : Ready d n tray t (partOf s 4) (partOf s 16)
+          given = ready s g (book .reads) tray table good t (valid-exactly d n (dimension d (g .dimension)) t (rooms .0) .0 tested)
+
+          -- 0, where `shifted` of the shots are shifted
+          module _ {shifted : ℕ} (c : shifted ≡ shiftedAmong d n (operationsOf d n (partOf s 4)) (partOf s 16) t tray (shotsIn tray)) where
+            counts : cleanAmong d n (operationsOf d n (partOf s 4)) (partOf s 16) t tray (shotsIn tray) + shifted ≡ shotsIn tray
+            counts = rw c (counts-are d n (operationsOf d n (partOf s 4)) (partOf s 16) t tray (shotsIn tray))
+
+            pub most : shifted ≤ shotsIn tray
+            most = omega (arith, counts)
+
+            pub run-book : {filled : List ℕ}
+                → filled ≡ filledBy d n (operationsOf d n (partOf s 4)) (partOf s 16) t tray out (shotsIn tray)
+                → _≡_ {A = TrayLeft} (record { number = 0; place = shotsIn tray - shifted; shifted = shifted; out = filled }) (trayBook s tray t out)
+            unfolding trayBook trayTold
+            run-book o =
+                let clean : shotsIn tray - shifted ≡ cleanAmong d n (operationsOf d n (partOf s 4)) (partOf s 16) t tray (shotsIn tray) = omega (arith, counts) in
+                rw (book .reads, table, good, g .measurements, roomy, tested, g .third, ← g .measurements, g .first, clean, c, o)

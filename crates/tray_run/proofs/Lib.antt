@@ -1,0 +1,3 @@
+-- What the call rests on.
+pub mod Ready
+pub mod Books

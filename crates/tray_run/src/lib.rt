@@ -1,0 +1,75 @@
+// The run of a tray.
+ghost use mathlib.Core.Path.{_≡_};
+ghost use Prim.Native.Nat.{_≤_};
+ghost use Rattle.shots.specs.Shots.{trayRoomy, trayBook};
+use body::Reading;
+use search::Place;
+
+// What a tray run returns: 0, the number of clean shots and the number of shifted ones; or a refusal's number, its place and 0.
+#[repr(C)]
+pub struct TrayAnswer {
+    pub number: usize,
+    pub place: usize,
+    pub shifted: usize,
+}
+
+fn refused(number: usize, place: usize) -> TrayAnswer
+    ensures { λ r. ⌜ r ≡ record { number = number; place = place; shifted = 0 } ⌝ }
+{
+    TrayAnswer {
+        number,
+        place,
+        shifted: 0,
+    }
+}
+
+// Whether tableau and buffer are as long as they must be.
+fn is_roomy(t: &[u8], out: &[u8], measurements: usize, shots: usize, n: usize) -> bool
+    requires { ⌜ (n ≤ 64) × (measurements ≤ 4096) × (shots ≤ 4096) ⌝ }
+    ensures { λ r. ⌜ r ≡ trayRoomy n measurements shots (now (t .entry)) (now (out .entry)) ⌝ }
+{
+    (2 * n * (2 * n + 1) <= t.len()) & (shots * (1 + 2 * measurements) <= out.len())
+}
+
+// The shots of a tray over a book's circuit, from the lent tableau: refusals 1 to 7 of the book, then 11, the tray's 6, 8 and 9.
+pub fn tray_run(book: &[u8], tray: &[u8], t: &[u8], out: &mut [u8]) -> TrayAnswer
+    ensures { λ r. ⌜ record { number = r .number; place = r .place; shifted = r .shifted; out = now (out .exit) }
+        ≡ trayBook (now (book .entry)) (now (tray .entry)) (now (t .entry)) (now (out .entry)) ⌝ }
+{
+    let reading = book::read(book);
+    let numbers = match reading {
+        Reading::Accepted(numbers) => numbers,
+        Reading::Refused { number, place } => {
+            return refused(entries::wide(number), place);
+        }
+    };
+    let d = numbers.d;
+    let n = numbers.n;
+    if !tray::is_tabled(tray) {
+        return refused(11, 0);
+    }
+    if let Place::At(shot) = tray::bad_shot(tray, numbers.operations, d, n) {
+        return refused(6, shot);
+    }
+    let shots = entries::word(tray, 0);
+    if !is_roomy(t, out, numbers.choices, shots, n) {
+        return refused(8, 0);
+    }
+    if !validity::is_valid(t, d, n) {
+        return refused(9, 0);
+    }
+    let shifted = shots_run::run(
+        out,
+        tray,
+        t,
+        book::part_of(book, 4),
+        book::part_of(book, 16),
+        d,
+        n,
+    );
+    TrayAnswer {
+        number: 0,
+        place: shots - shifted,
+        shifted,
+    }
+}

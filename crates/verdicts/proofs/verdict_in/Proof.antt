@@ -1,0 +1,26 @@
+-- `verdicts::verdict_in` meets its contract.
+-- Assumes nothing.
+use mathlib.Core.Path.{_∙_, sym, ap}
+use Prim.Native.Nat.{ℕ}
+use mathlib.Core.List.{List}
+use native.Mathlib.Omega.{arith}
+use denote.Ref.{now}
+use borrow.Author.Needs.{needs}
+use Rattle.run.specs.Frame.{verdictOf}
+use Rattle.verdicts.proofs.verdict_in.Statement.{statement}
+use Rattle.verdicts.proofs.verdict_in.Tie as tie
+
+copy-lane-requires : tie.Need-copy-lane-requires
+copy-lane-requires c κs = search needs
+
+verdict-requires : tie.Need-verdict-requires
+verdict-requires c κs = let s = c .before .before .before .before .before .before .before .before in (s .pre .0, s .pre .4, rw (c .before .before .before .copy-lane .ensures) (s .pre .3 .powers (s .args .l) (s .pre .1)), s .pre .5)
+
+same-length : tie.Need-same-length
+same-length c = search needs
+
+returns : tie.Need-returns
+returns c = rw (c .before .before .before .before .copy-lane .ensures) at (c .verdict .ensures)
+
+pub verdict-in-spec : {M : Type 1} → statement M
+verdict-in-spec = tie.close (tie.spec copy-lane-requires verdict-requires same-length returns)
