@@ -257,6 +257,6 @@ impl Book {
 }
 
 /// The number in two bytes, or the largest that fits.
-fn narrow(number: usize) -> u16 {
+pub(crate) fn narrow(number: usize) -> u16 {
     u16::try_from(number).unwrap_or(u16::MAX)
 }

@@ -38,6 +38,17 @@ pub enum Verdict {
     Shifted,
 }
 
+impl Verdict {
+    /// The verdict that the library writes as this number, if it is one.
+    pub(crate) fn listed(number: usize) -> Option<Verdict> {
+        match number {
+            0 => Some(Verdict::Clean),
+            1 => Some(Verdict::Shifted),
+            _ => None,
+        }
+    }
+}
+
 /// What a frame run tells beside the buffers that it fills.
 #[derive(Clone, Copy, Debug, PartialEq, Eq, Hash)]
 pub struct FrameRun {
@@ -113,12 +124,10 @@ pub fn frame_run(
         verdict,
     } = library::frame_run(book, tableau, results, shifts, frame);
     let measurements = told(Answer { number, place })?;
-    let verdict = match verdict {
-        0 => Verdict::Clean,
-        1 => Verdict::Shifted,
-        // Proved not to come, as with an unlisted number.
-        _ => panic!("the linked library is of another version: its verdict is {verdict}"),
-    };
+    // Another verdict is proved not to come, as with an unlisted number.
+    let verdict = Verdict::listed(verdict).unwrap_or_else(|| {
+        panic!("the linked library is of another version: its verdict is {verdict}")
+    });
     Ok(FrameRun {
         measurements,
         verdict,

@@ -64,6 +64,40 @@
 //! for them. What a run would refuse in that book it refuses itself, with the same number and place,
 //! so that a book that it wrote is never refused by 1 to 7.
 //!
+//! # A whole tray of shots
+//!
+//! A *tray* holds the error lists of up to 4,096 shots; [`Tray`] builds one. [`tray_run`] runs the
+//! circuit of one book with each of them, always from the same start, and gives for each shot the
+//! verdict and the results that a separate [`frame_run`] would end with, and the number of clean and
+//! of shifted shots. It runs the circuit once and carries the errors of many shots side by side: a
+//! full tray on many qudits is done hundreds of times faster than by separate runs.
+//!
+//! ```
+//! use cagvost::book::{Book, WeylError};
+//! use cagvost::{Shots, Tray};
+//!
+//! // One qutrit at level 0 is measured, in one shot for each power of X that strikes it before.
+//! let mut book = Book::new(3, 1);
+//! book.measure(0, 0);
+//! let mut tray = Tray::new();
+//! for p in 0..3 {
+//!     tray.shot(&[WeylError { place: 0, qudit: 0, p, s: 0 }]);
+//! }
+//! let mut tableau = [0; cagvost::tableau_len(1)];
+//! let mut out = [0; cagvost::shots_len(3, 1)];
+//!
+//! cagvost::layer(&mut tableau, 3, 1)?;
+//! let counts = cagvost::tray_run(&book.to_bytes(), &tray.to_bytes(), &tableau, &mut out)?;
+//! assert_eq!((counts.clean, counts.shifted), (1, 2));
+//! let shots = Shots::new(&out, counts.shots(), book.measurements());
+//! assert!(shots.iter().map(|shot| shot.results[0]).eq(0..3));
+//! # Ok::<(), cagvost::Refusal>(())
+//! ```
+//!
+//! The bytes of a tray are a table of contents, which is the number of shots and for each the number
+//! of bytes of its errors, all in two bytes with the low one first, and then the errors of all shots
+//! in order, as a book has them. `examples/tray.rs` in this package is a whole program.
+//!
 //! # Buffers
 //!
 //! - The *tableau* has 2n rows of 2n + 1 bytes: n X powers, n Z powers and a phase. Destabilizers
@@ -72,6 +106,8 @@
 //!   it was free; [`results_len`] is their size.
 //! - The *shifts* of a frame run have a byte for each row, and its *frame* n X powers and n Z
 //!   powers; [`shifts_len`] and [`frame_len`] are their sizes.
+//! - The *shots* that a tray run fills have, for each shot, a byte for the verdict, 0 for clean or 1
+//!   for shifted, and then its results; [`shots_len`] is their size, and [`Shots`] reads them.
 //! - The *book* that the writer fills has 22 bytes and then the three bodies; [`book_len`] is its
 //!   size.
 //!
@@ -91,10 +127,12 @@ mod frame;
 #[allow(unsafe_code)]
 mod library;
 mod refusal;
+mod tray;
 mod write;
 
 pub use frame::{FrameRun, Verdict, frame_len, frame_run, shifts_len};
 pub use refusal::Refusal;
+pub use tray::{MAX_SHOTS, Shot, Shots, Tray, TrayCounts, shots_len, tray_run};
 pub use write::{book_len, write_book};
 
 use library::Answer;

@@ -27,6 +27,16 @@ pub(crate) struct FrameAnswer {
     pub(crate) verdict: usize,
 }
 
+/// What the tray run returns: 0 and how many shots were clean and shifted, or a refusal's number and
+/// its place and 0.
+#[repr(C)]
+#[derive(Clone, Copy, Debug, PartialEq, Eq)]
+pub(crate) struct TrayAnswer {
+    pub(crate) number: usize,
+    pub(crate) place: usize,
+    pub(crate) shifted: usize,
+}
+
 unsafe extern "C" {
     fn cagvost_layer(t: *mut u8, t_len: usize, d: usize, n: usize) -> Answer;
     fn cagvost_test(t: *const u8, t_len: usize, d: usize, n: usize) -> Answer;
@@ -62,6 +72,16 @@ unsafe extern "C" {
         d: usize,
         n: usize,
     ) -> Answer;
+    fn cagvost_tray(
+        book: *const u8,
+        book_len: usize,
+        tray: *const u8,
+        tray_len: usize,
+        t: *const u8,
+        t_len: usize,
+        out: *mut u8,
+        out_len: usize,
+    ) -> TrayAnswer;
 }
 
 pub(crate) fn layer(tableau: &mut [u8], d: usize, n: usize) -> Answer {
@@ -137,7 +157,23 @@ pub(crate) fn write(
     }
 }
 
-/// The numbers that the safe functions drop: a success's second, a refusal's verdict.
+pub(crate) fn tray(book: &[u8], tray: &[u8], tableau: &[u8], out: &mut [u8]) -> TrayAnswer {
+    // SAFETY: see the head of this module; the library writes the last buffer alone.
+    unsafe {
+        cagvost_tray(
+            book.as_ptr(),
+            book.len(),
+            tray.as_ptr(),
+            tray.len(),
+            tableau.as_ptr(),
+            tableau.len(),
+            out.as_mut_ptr(),
+            out.len(),
+        )
+    }
+}
+
+/// The numbers that the safe functions drop: a success's second, a refusal's third.
 #[cfg(test)]
 mod tests {
     use super::*;
@@ -191,5 +227,30 @@ mod tests {
         assert_eq!(run(&book, &mut []), (8, 0, 0));
         book.choice(0);
         assert_eq!(run(&book, &mut [0; 2]), (7, 1, 0));
+    }
+
+    #[test]
+    fn a_tray_run_ends_with_both_counts_and_a_refusal_with_0() {
+        let numbers = |a: TrayAnswer| (a.number, a.place, a.shifted);
+        let mut tableau = [0; crate::tableau_len(1)];
+        layer(&mut tableau, 3, 1);
+        let book = Book::new(3, 1).to_bytes();
+        // No error, Z, X, X and X^2: two clean shots and three shifted ones.
+        let body = |p, s| [0, 0, 0, p, s];
+        let mut shots = crate::Tray::new();
+        shots.body(&[]).body(&body(0, 1)).body(&body(1, 0));
+        let shots = shots.body(&body(1, 0)).body(&body(2, 0)).to_bytes();
+        let run = |book: &[u8], shots: &[u8], tableau: &[u8], out: &mut [u8]| {
+            numbers(tray(book, shots, tableau, out))
+        };
+        assert_eq!(run(&book, &shots, &tableau, &mut [7; 5]), (0, 2, 3));
+        assert_eq!(run(&book[1..], &shots, &tableau, &mut [7; 5]), (1, 0, 0));
+        assert_eq!(run(&book, &shots[1..], &tableau, &mut [7; 5]), (11, 0, 0));
+        let mut bad = shots.clone();
+        *bad.last_mut().expect("the last power of Z") = 3;
+        assert_eq!(run(&book, &bad, &tableau, &mut [7; 5]), (6, 4, 0));
+        assert_eq!(run(&book, &shots, &tableau, &mut [7; 4]), (8, 0, 0));
+        tableau[0] = 2;
+        assert_eq!(run(&book, &shots, &tableau, &mut [7; 5]), (9, 0, 0));
     }
 }

@@ -3,7 +3,8 @@
 use std::error::Error;
 use std::fmt;
 
-/// Why a call refused: one variant for each listed number, with the place where it says one.
+/// Why a call refused: one variant for each listed number, with the place where it says one. Only 6
+/// has two, for an error of the book and for one of a tray.
 ///
 /// A refusal leaves every lent buffer as it was. All tests come before the work, and the work itself
 /// never refuses.
@@ -35,10 +36,17 @@ pub enum Refusal {
         /// The first bad operation.
         index: usize,
     },
-    /// 6: an error is placed too high or out of order, or its qudit or a power is too large.
+    /// 6: an error of the book is placed too high or out of order, or its qudit or a power is too
+    /// large.
     ErrorEntry {
         /// The first bad error.
         index: usize,
+    },
+    /// 6, by a tray run alone: the book is good, and a shot of the tray has an error that a book
+    /// with these operations may not have.
+    TrayShot {
+        /// The first shot with a bad error, counted from 0.
+        shot: usize,
     },
     /// 7: choices and measurements differ in number, or a choice is not below the dimension.
     Choice {
@@ -49,10 +57,13 @@ pub enum Refusal {
     ShortBuffer,
     /// 9: the lent tableau is not a valid one for this dimension and number of qudits.
     InvalidTableau,
+    /// 11: the tray has more than 4,096 shots, the errors of one are not whole entries or are more
+    /// than 2,048, or it is not as long as its table of contents says.
+    Tray,
 }
 
 impl Refusal {
-    /// The listed number, from 1 to 9.
+    /// The listed number: from 1 to 9, or 11.
     pub fn number(self) -> usize {
         match self {
             Refusal::BookHeader => 1,
@@ -60,10 +71,11 @@ impl Refusal {
             Refusal::QuditCount => 3,
             Refusal::Contents { .. } => 4,
             Refusal::Operation { .. } => 5,
-            Refusal::ErrorEntry { .. } => 6,
+            Refusal::ErrorEntry { .. } | Refusal::TrayShot { .. } => 6,
             Refusal::Choice { .. } => 7,
             Refusal::ShortBuffer => 8,
             Refusal::InvalidTableau => 9,
+            Refusal::Tray => 11,
         }
     }
 
@@ -74,6 +86,7 @@ impl Refusal {
             Refusal::Operation { index }
             | Refusal::ErrorEntry { index }
             | Refusal::Choice { index } => index,
+            Refusal::TrayShot { shot } => shot,
             _ => 0,
         }
     }
@@ -100,6 +113,9 @@ impl Refusal {
             Refusal::ErrorEntry { .. } => {
                 "this error is placed after the end or before the previous error, or its qudit or a power is too large"
             }
+            Refusal::TrayShot { .. } => {
+                "in this shot of the tray an error is placed after the end or before the previous error, or its qudit or a power is too large"
+            }
             Refusal::Choice { .. } => {
                 "choices and measurements differ in number from here on, or this choice is not below the dimension"
             }
@@ -107,10 +123,14 @@ impl Refusal {
             Refusal::InvalidTableau => {
                 "the tableau is not valid: a byte is not below the dimension, or two rows do not pair as they must"
             }
+            Refusal::Tray => {
+                "not a tray: it has more than 4,096 shots, the errors of a shot are not whole entries or are more than 2,048, or it is not as long as its table of contents says"
+            }
         }
     }
 
-    /// The refusal that the library names.
+    /// The refusal that the library names. By 6 it names the book's error here; a tray run tells
+    /// its shot apart.
     ///
     /// Another number or place than the listed ones is proved not to come, so it can only mean that
     /// this package was linked with a library of another version: no result of it is to be trusted.
@@ -125,6 +145,7 @@ impl Refusal {
             (7, index) => Refusal::Choice { index },
             (8, 0) => Refusal::ShortBuffer,
             (9, 0) => Refusal::InvalidTableau,
+            (11, 0) => Refusal::Tray,
             _ => panic!("the linked library is of another version: it refused {number} at {place}"),
         }
     }
@@ -155,13 +176,29 @@ mod tests {
 
     #[test]
     fn each_listed_number_keeps_its_number_and_place() {
-        for number in 1..=9 {
+        for number in (1..=9).chain([11]) {
             let place = if matches!(number, 4..=7) { 2 } else { 0 };
-            let refusal = Refusal::listed(number, place);
-            assert_eq!((refusal.number(), refusal.place()), (number, place));
-            let text = refusal.to_string();
-            assert!(text.starts_with(&format!("refused {number} at {place}: ")));
+            keeps(Refusal::listed(number, place), number, place);
         }
+        keeps(Refusal::TrayShot { shot: 4095 }, 6, 4095);
+    }
+
+    fn keeps(refusal: Refusal, number: usize, place: usize) {
+        assert_eq!((refusal.number(), refusal.place()), (number, place));
+        let text = refusal.to_string();
+        assert!(text.starts_with(&format!("refused {number} at {place}: ")));
+    }
+
+    /// The words for 6 say whether the book or the tray is meant.
+    #[test]
+    fn the_words_for_6_tell_book_and_tray_apart() {
+        let [book, tray] = [
+            Refusal::ErrorEntry { index: 1 },
+            Refusal::TrayShot { shot: 1 },
+        ];
+        assert_ne!(book, tray);
+        assert!(!book.to_string().contains("tray"));
+        assert!(tray.to_string().contains("shot of the tray"));
     }
 
     #[test]
@@ -174,5 +211,11 @@ mod tests {
     #[should_panic(expected = "another version")]
     fn a_place_where_the_list_has_none_is_no_refusal() {
         Refusal::listed(8, 1);
+    }
+
+    #[test]
+    #[should_panic(expected = "another version")]
+    fn a_tray_has_no_place() {
+        Refusal::listed(11, 1);
     }
 }

@@ -1,14 +1,17 @@
-//! Times the package's calls beside the same calls in Rust: `cargo bench` in this package.
+//! Times the package's calls beside the same calls in Rust: `cargo bench` in this package, or
+//! `cargo bench -- trays` for the tray runs alone.
 //!
-//! The columns are the package, (b) the fastest safe Rust that we could write (`tuned.rs`) and (a)
-//! the specification with `%` and no thought of speed (`tests/common/plain.rs`). All three run in
-//! this process and must agree in every number and byte.
+//! The columns are the package, (b) the fastest safe Rust that we could write (`tuned.rs`, and
+//! `lanes.rs` for trays) and (a) the specification with `%` and no thought of speed
+//! (`tests/common/plain.rs`). All run in this process and must agree in every number and byte.
 
 mod books;
 mod calls;
 #[path = "../../tests/common/mod.rs"]
 mod common;
+mod lanes;
 mod timing;
+mod trays;
 mod tuned;
 
 use books::{Mix, certain_tableau, dense_tableau};
@@ -30,18 +33,22 @@ const GROWTH: Duration = Duration::from_millis(600);
 const SINGLE: Duration = Duration::from_millis(400);
 
 fn main() {
+    let is_given = |name: &str| std::env::args().any(|argument| argument == name);
     // `cargo test --all-targets` runs this file too, without that argument and not optimised.
-    if !std::env::args().any(|argument| argument == "--bench") {
+    if !is_given("--bench") {
         println!("nothing is timed: run `cargo bench`");
         return;
     }
     let begin = Instant::now();
     preface();
-    single_errors();
-    full_books();
-    growth();
-    single_operations();
-    writing();
+    if !is_given("trays") {
+        single_errors();
+        full_books();
+        growth();
+        single_operations();
+        writing();
+    }
+    trays::trays();
     small_stack();
     println!("\nAll of it took {:.0} s.", begin.elapsed().as_secs_f64());
 }

@@ -12,9 +12,9 @@ const MOST_ROUNDS: usize = 1000;
 
 /// Least and median time of each column, in nanoseconds.
 #[derive(Clone, Copy)]
-pub struct Times {
-    pub least: [f64; 3],
-    pub median: [f64; 3],
+pub struct Times<const N: usize = 3> {
+    pub least: [f64; N],
+    pub median: [f64; N],
 }
 
 /// Times the call in each column for about as long as the budget says.
@@ -93,7 +93,7 @@ pub fn leaves(job: &Job, call: Call) -> (Told, Lent) {
     (call(job, &mut buffers), buffers)
 }
 
-fn summary(times: [Vec<Duration>; 3]) -> Times {
+pub fn summary<const N: usize>(times: [Vec<Duration>; N]) -> Times<N> {
     let sorted = times.map(|mut column| {
         column.sort_unstable();
         column

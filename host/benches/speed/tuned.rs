@@ -19,21 +19,21 @@
 //!   gone through again to find the first.
 
 /// A returned number and its place.
-type Told = (usize, usize);
+pub type Told = (usize, usize);
 
 /// The largest number of powers in a row.
 const POWERS: usize = 128;
 
 // ---- Arithmetic modulo d
 
-fn add(d: u8, x: u8, y: u8) -> u8 {
+pub fn add(d: u8, x: u8, y: u8) -> u8 {
     let sum = x.wrapping_add(y);
     sum.min(sum.wrapping_sub(d))
 }
 
 /// Arithmetic on single bytes by tables. Indices of eight and of five bits need no check.
-struct Modulo {
-    d: u8,
+pub struct Modulo {
+    pub d: u8,
     /// 65536/d.
     reciprocal: u16,
     /// The rest of each sum of four numbers below d, and of each difference of two, wrapped.
@@ -45,7 +45,7 @@ struct Modulo {
 }
 
 impl Modulo {
-    fn new(d: u8) -> Modulo {
+    pub fn new(d: u8) -> Modulo {
         let mut rests = [0; 256];
         for i in 0..=255 {
             rests[usize::from(i)] = match i {
@@ -76,7 +76,7 @@ impl Modulo {
     }
 
     /// The rest of a sum of products. The quotient is found by a product and is at most 1 too low.
-    fn reduce(&self, x: u16) -> u8 {
+    pub fn reduce(&self, x: u16) -> u8 {
         let quotient = (u32::from(x) * u32::from(self.reciprocal)) >> 16;
         let rest = (x - quotient as u16 * u16::from(self.d)) as u8;
         rest.min(rest.wrapping_sub(self.d))
@@ -87,7 +87,7 @@ impl Modulo {
         &self.products[usize::from(x & 31)]
     }
 
-    fn inverse(&self, u: u8) -> u8 {
+    pub fn inverse(&self, u: u8) -> u8 {
         look_up(&self.inverses, u)
     }
 }
@@ -141,7 +141,7 @@ fn gain(d: u8, row: &mut [u8], blocks: &Blocks) {
 }
 
 /// Σ x·y.
-fn dot(x: &[u8], y: &[u8]) -> u16 {
+pub fn dot(x: &[u8], y: &[u8]) -> u16 {
     let products = x.iter().zip(y);
     products.map(|(&x, &y)| u16::from(x) * u16::from(y)).sum()
 }
@@ -212,7 +212,7 @@ impl Divisor {
     }
 }
 
-fn is_valid(d: u8, n: usize, tableau: &[u8]) -> bool {
+pub fn is_valid(d: u8, n: usize, tableau: &[u8]) -> bool {
     if tableau.iter().fold(0, |most, &x| x.max(most)) >= d {
         return false;
     }
@@ -429,12 +429,12 @@ fn collapse(
 
 // ---- The book
 
-struct Book<'a> {
-    d: u8,
-    n: usize,
-    operations: &'a [u8],
-    errors: &'a [u8],
-    choices: &'a [u8],
+pub struct Book<'a> {
+    pub d: u8,
+    pub n: usize,
+    pub operations: &'a [u8],
+    pub errors: &'a [u8],
+    pub choices: &'a [u8],
 }
 
 /// Refusals 2 and 3.
@@ -448,12 +448,12 @@ fn check_sizes(d: usize, n: usize) -> Result<(), Told> {
     Ok(())
 }
 
-fn two_bytes(bytes: &[u8], i: usize) -> usize {
+pub fn two_bytes(bytes: &[u8], i: usize) -> usize {
     usize::from(u16::from_le_bytes([bytes[i], bytes[i + 1]]))
 }
 
 /// The accepted book, or refusal 1 to 7.
-fn read(book: &[u8]) -> Result<Book<'_>, Told> {
+pub fn read(book: &[u8]) -> Result<Book<'_>, Told> {
     if book.len() < 22 || book[0] != 81 || book[3] != 3 {
         return Err((1, 0));
     }
@@ -565,7 +565,7 @@ fn take_error<'a>(errors: &mut &'a [u8], k: usize) -> Option<&'a [u8]> {
 // ---- Calls
 
 /// The bytes of a tableau of n qudits.
-fn tableau_len(n: usize) -> usize {
+pub fn tableau_len(n: usize) -> usize {
     2 * n * (2 * n + 1)
 }
 
@@ -642,11 +642,15 @@ pub fn direct_run(book: &[u8], tableau: &mut [u8], results: &mut [u8]) -> Told {
     if !is_valid(book.d, book.n, rows) {
         return (9, 0);
     }
-    let modulo = Modulo::new(book.d);
-    turn_phases(rows, book.n, book.d / 2, &modulo);
-    let measurements = strike_along(&book, rows, results, &modulo);
-    turn_phases(rows, book.n, book.d / 2 + 1, &modulo);
-    (0, measurements)
+    (0, run_rows(&book, rows, results, &Modulo::new(book.d)))
+}
+
+/// A direct run on the rows of a valid tableau. How many measurements there were.
+pub fn run_rows(book: &Book, rows: &mut [u8], results: &mut [u8], modulo: &Modulo) -> usize {
+    turn_phases(rows, book.n, book.d / 2, modulo);
+    let measurements = strike_along(book, rows, results, modulo);
+    turn_phases(rows, book.n, book.d / 2 + 1, modulo);
+    measurements
 }
 
 /// All operations and errors of a direct run. How many measurements there were.

@@ -4,6 +4,7 @@
 pub mod dense;
 pub mod frames;
 pub mod plain;
+pub mod trays;
 
 use cagvost::Refusal;
 use cagvost::book::{Book, DIMENSIONS, MAX_ERRORS, MAX_OPERATIONS, Operation, WeylError};

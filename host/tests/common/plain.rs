@@ -415,6 +415,44 @@ fn read_choices(d: i64, measurements: usize, body: &[u8]) -> Result<Vec<i64>, To
     }
 }
 
+/// An accepted book, and the errors of each shot of an accepted tray.
+struct Shots {
+    circuit: Book,
+    errors: Vec<Vec<Error>>,
+}
+
+/// Refusals 1 to 7 of the book, then 11, then 6 with the first shot that has a bad error.
+fn read_shots(book: &[u8], tray: &[u8]) -> Result<Shots, Told> {
+    let circuit = read(book)?;
+    let bodies = tray_bodies(tray).ok_or((11, 0))?;
+    let mut errors = Vec::new();
+    for (i, body) in bodies.into_iter().enumerate() {
+        let read = read_errors(circuit.d, circuit.n, circuit.operations.len(), body);
+        errors.push(read.map_err(|_| (6, i))?);
+    }
+    Ok(Shots { circuit, errors })
+}
+
+/// The error bodies of a tray, if its table of contents is a good one and true.
+pub fn tray_bodies(tray: &[u8]) -> Option<Vec<&[u8]>> {
+    let (count, rest) = tray.split_at_checked(2)?;
+    let count = two_bytes(count, 0);
+    if count > 4096 {
+        return None;
+    }
+    let (lengths, mut rest) = rest.split_at_checked(2 * count)?;
+    let mut bodies = Vec::new();
+    for length in lengths.chunks(2).map(|length| two_bytes(length, 0)) {
+        if length % 5 != 0 || length > 5 * 2048 {
+            return None;
+        }
+        let (body, after) = rest.split_at_checked(length)?;
+        bodies.push(body);
+        rest = after;
+    }
+    rest.is_empty().then_some(bodies)
+}
+
 /// The bytes that these bodies make as a book, accepted or not.
 ///
 /// A number that does not fit stands there as the largest that does, and is refused as it must be:
@@ -537,6 +575,47 @@ pub fn frame_run(
     // A frame has no phase: the last byte of its row is left off.
     frame[..2 * n].copy_from_slice(&bytes_of(&[carried])[..2 * n]);
     (0, measurements, verdict)
+}
+
+/// The tray run: every shot is a frame run of its own, from the lent tableau, of the book with this
+/// shot's errors in place of its own. The last two numbers are the clean and the shifted shots.
+pub fn tray(book: &[u8], tray: &[u8], tableau: &[u8], out: &mut [u8]) -> (usize, usize, usize) {
+    let shots = match read_shots(book, tray) {
+        Ok(shots) => shots,
+        Err((number, place)) => return (number, place, 0),
+    };
+    let Shots { circuit, errors } = shots;
+    let (d, n, width) = (circuit.d, circuit.n, 1 + 2 * circuit.measurements());
+    if tableau.len() < tableau_len(n) || out.len() < errors.len() * width {
+        return (8, 0, 0);
+    }
+    if !is_valid(d, n, tableau) {
+        return (9, 0, 0);
+    }
+    let mut ended = [0, 0];
+    for (i, errors) in errors.into_iter().enumerate() {
+        let book = Book {
+            errors,
+            ..circuit.clone()
+        };
+        let (verdict, results) = one_shot(&book, tableau);
+        let row = &mut out[i * width..(i + 1) * width];
+        row[0] = verdict as u8;
+        row[1..].copy_from_slice(&results);
+        ended[verdict] += 1;
+    }
+    (0, ended[0], ended[1])
+}
+
+/// The verdict and the results of a frame run from a copy of the tableau.
+fn one_shot(book: &Book, tableau: &[u8]) -> (usize, Vec<u8>) {
+    let mut rows = rows_of(book.n, tableau);
+    let mut carried = identity(book.n);
+    let mut results = vec![0; 2 * book.measurements()];
+    carry_all(book, &mut rows, &mut carried, &mut results);
+    let mut shifts = vec![0; 2 * book.n];
+    let verdict = shift_all(book.d, &carried, &mut rows, &mut shifts);
+    (verdict, results)
 }
 
 /// All operations and errors of a frame run. How many measurements there were.

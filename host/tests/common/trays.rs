@@ -1,0 +1,166 @@
+//! Tray runs by the library, by the plain reference and by separate frame runs.
+
+use super::frames::Buffers;
+use super::{Rng, UNWRITTEN, draw_error, draw_gate, draw_tableau, plain, with_tail, zero_tableau};
+use cagvost::book::{Book, WeylError};
+use cagvost::{Refusal, Tray, TrayCounts};
+
+/// A number, its place or how many shots were clean, and how many were shifted.
+pub type Told = (usize, usize, usize);
+
+/// What a tray run is lent. All but the last is only read.
+#[derive(Clone, Debug, PartialEq, Eq)]
+pub struct Lent {
+    pub book: Vec<u8>,
+    pub tray: Vec<u8>,
+    pub tableau: Vec<u8>,
+    pub out: Vec<u8>,
+}
+
+impl Lent {
+    /// A book and a tray with a drawn tableau, and room filled with bytes that must not be read; both
+    /// buffers have tails that must be kept.
+    pub fn drawn(rng: &mut Rng, book: &Book, tray: &Tray) -> Lent {
+        let tableau = draw_tableau(rng, book.dimension(), book.qudits());
+        let room = rng.bytes(cagvost::shots_len(tray.shots(), book.measurements()));
+        Lent {
+            book: book.to_bytes(),
+            tray: tray.to_bytes(),
+            tableau: with_tail(rng, tableau),
+            out: with_tail(rng, room),
+        }
+    }
+
+    /// The same with exactly the room that is needed, and the zero tableau.
+    pub fn zero(book: &Book, tray: &Tray) -> Lent {
+        let room = cagvost::shots_len(tray.shots(), book.measurements());
+        Lent {
+            book: book.to_bytes(),
+            tray: tray.to_bytes(),
+            tableau: zero_tableau(book.qudits()),
+            out: vec![UNWRITTEN; room],
+        }
+    }
+
+    /// A tray run by the package.
+    pub fn by_library(&mut self) -> Result<TrayCounts, Refusal> {
+        cagvost::tray_run(&self.book, &self.tray, &self.tableau, &mut self.out)
+    }
+
+    /// The same call to the plain reference.
+    pub fn by_plain(&mut self) -> Told {
+        plain::tray(&self.book, &self.tray, &self.tableau, &mut self.out)
+    }
+
+    /// Book and tray for a message, the first bytes of each.
+    fn named(&self) -> String {
+        let first = |bytes: &[u8]| format!("{:02x?}", &bytes[..bytes.len().min(300)]);
+        format!("book {} tray {}", first(&self.book), first(&self.tray))
+    }
+}
+
+/// The numbers of a tray run.
+pub fn numbers(run: Result<TrayCounts, Refusal>) -> Told {
+    match run {
+        Ok(TrayCounts { clean, shifted }) => (0, clean, shifted),
+        Err(refusal) => (refusal.number(), refusal.place(), 0),
+    }
+}
+
+/// A tray run by the library and by the plain reference, which must agree in each number and byte.
+/// Nothing but `out` may change, and by a refusal not even this. Of each shot the bytes must be those
+/// of a separate frame run.
+pub fn tray_both(before: &Lent) -> (Told, Vec<u8>) {
+    let (mut left, mut expected) = (before.clone(), before.clone());
+    let run = left.by_library();
+    let told = numbers(run);
+    let named = || before.named();
+    assert_eq!(told, expected.by_plain(), "numbers of {}", named());
+    assert!(left.out == expected.out, "bytes of {}", named());
+    left.out.clone_from(&before.out);
+    assert!(left == *before, "a buffer was written by {}", named());
+    match run {
+        Ok(_) => one_by_one(before, &expected.out),
+        Err(refusal) => {
+            let kept = expected.out == before.out;
+            assert!(kept, "{told:?} changed the shots of {}", named());
+            let in_tray = matches!(refusal, Refusal::TrayShot { .. });
+            let good_book = plain::read(&before.book).is_ok();
+            assert_eq!(in_tray, told.0 == 6 && good_book, "{}", named());
+        }
+    }
+    (told, expected.out)
+}
+
+/// Compares an accepted tray's bytes with separate frame runs of written books, and what comes after
+/// them with what was there before.
+fn one_by_one(before: &Lent, out: &[u8]) {
+    let bodies = plain::tray_bodies(&before.tray).expect("an accepted tray");
+    let [operations, _, choices] = plain::read_contents(&before.book).expect("an accepted book");
+    let (d, n, width) = (before.book[1], before.book[2], 1 + 2 * choices.len());
+    for (i, body) in bodies.iter().enumerate() {
+        let row = separate([operations, body, choices], d, n, &before.tableau);
+        let same = row == out[i * width..(i + 1) * width];
+        assert!(same, "shot {i} of {}", before.named());
+    }
+    let end = bodies.len() * width;
+    assert!(out[end..] == before.out[end..], "bytes past the shots");
+}
+
+/// The verdict and the results of a separate frame run of the book that is written of these bodies.
+pub fn separate(bodies: [&[u8]; 3], d: u8, n: u8, tableau: &[u8]) -> Vec<u8> {
+    let book = written(bodies, d, n);
+    let mut run = Buffers::zero(n, bodies[2].len());
+    run.tableau = tableau.to_vec();
+    let (number, _, verdict) = run.by_library(&book);
+    assert_eq!(number, 0, "{bodies:02x?}");
+    [&[verdict as u8], &run.results[..]].concat()
+}
+
+/// The book that the library writes of these bodies.
+fn written([operations, errors, choices]: [&[u8]; 3], d: u8, n: u8) -> Vec<u8> {
+    let mut book = vec![UNWRITTEN; cagvost::book_len(operations, errors, choices)];
+    cagvost::write_book(d.into(), n.into(), operations, errors, choices, &mut book)
+        .expect("bodies of an accepted book and tray");
+    book
+}
+
+/// A book without errors that has just so many gates and measurements, in drawn order. A measurement
+/// sometimes repeats the last, so that certain outcomes are common.
+pub fn draw_circuit(rng: &mut Rng, d: u8, n: u8, gates: usize, measurements: usize) -> Book {
+    let mut book = Book::new(d, n);
+    let (mut left, mut last) = (measurements, 0);
+    for k in (1..=gates + measurements).rev() {
+        if rng.below(k) < left {
+            left -= 1;
+            last = if rng.once_in(4) {
+                last
+            } else {
+                rng.byte_below(n)
+            };
+            book.measure(last, rng.byte_below(d));
+        } else {
+            book.operation(draw_gate(rng, d, n));
+        }
+    }
+    book
+}
+
+/// So many errors that are not the identity, at drawn places of a circuit of this book.
+pub fn draw_errors(rng: &mut Rng, book: &Book, count: usize) -> Vec<WeylError> {
+    let end = book.operations().len();
+    let mut places: Vec<usize> = (0..count).map(|_| rng.below(end + 1)).collect();
+    places.sort_unstable();
+    let error = |place| draw_error(rng, book.dimension(), book.qudits(), place);
+    places.into_iter().map(error).collect()
+}
+
+/// A tray of so many shots over this book, each with up to `most` errors.
+pub fn draw_tray(rng: &mut Rng, book: &Book, shots: usize, most: usize) -> Tray {
+    let mut tray = Tray::new();
+    for _ in 0..shots {
+        let count = rng.below(most + 1);
+        tray.shot(&draw_errors(rng, book, count));
+    }
+    tray
+}
