@@ -27,8 +27,17 @@ fn perform(
     d: u8,
     n: usize,
 ) -> usize
-    requires { ⌜ (k < length (now ops) / 4) × Setting d n (now ops) (now clean) × Lanes d n (now v) × (j ≡ measured (operationsOf d n (now ops)) k) × (length (now tile) ≡ 4096) × (length (now marks) ≡ 16) × (y < 16) ⌝ }
-    ensures { λ r. ⌜ Stepped d n (operationsOf d n (now (ops .entry))) (now (clean .entry)) k j y (now (v .entry)) (now (tile .entry)) (now (marks .entry)) (now (v .exit)) (now (tile .exit)) (now (marks .exit)) r × Lanes d n (now (v .exit)) × (length (now (tile .exit)) ≡ 4096) × (length (now (marks .exit)) ≡ 16) ⌝ }
+    requires { ⌜ (k < length (now ops) / 4)
+        × Setting d n (now ops) (now clean)
+        × Lanes d n (now v)
+        × (j ≡ measured (operationsOf d n (now ops)) k)
+        × (length (now tile) ≡ 4096)
+        × (length (now marks) ≡ 16)
+        × (y < 16) ⌝ }
+    ensures { λ r. ⌜ Stepped d n (operationsOf d n (now (ops .entry))) (now (clean .entry)) k j y (now (v .entry)) (now (tile .entry)) (now (marks .entry)) (now (v .exit)) (now (tile .exit)) (now (marks .exit)) r
+        × Lanes d n (now (v .exit))
+        × (length (now (tile .exit)) ≡ 4096)
+        × (length (now (marks .exit)) ≡ 16) ⌝ }
 {
     if ops[4 * k] == 6 {
         let q = entries::wide(ops[4 * k + 1]);
@@ -52,8 +61,21 @@ fn settle(
     w: usize,
     used: usize,
 ) -> usize
-    requires { ⌜ (length (now tile) ≡ 4096) × (length (now spare) ≡ 4096) × (length (now marks) ≡ 16) × (used ≤ 256) × (base ≤ j) × (j ≤ base + 16) × (1 + 2 * j ≤ w) × (w < 65536) × (used * w ≤ length (now out)) ⌝ }
-    ensures { λ r. ⌜ ((d n : ℕ) (ops : List Operation) (errors : ℕ → List WeylError) (clean : List ℕ) → Told d n ops errors clean w used base j (now (tile .entry)) (now (marks .entry)) (now (out .entry)) → Told d n ops errors clean w used r j (now (tile .exit)) (now (marks .entry)) (now (out .exit))) × (r ≤ j) × (j < r + 16) × (length (now (tile .exit)) ≡ 4096) × (length (now (spare .exit)) ≡ 4096) × (length (now (out .exit)) ≡ length (now (out .entry))) ⌝ }
+    requires { ⌜ (length (now tile) ≡ 4096)
+        × (length (now spare) ≡ 4096)
+        × (length (now marks) ≡ 16)
+        × (used ≤ 256)
+        × (base ≤ j)
+        × (j ≤ base + 16)
+        × (1 + 2 * j ≤ w)
+        × (w < 65536)
+        × (used * w ≤ length (now out)) ⌝ }
+    ensures { λ r. ⌜ ((d n : ℕ) (ops : List Operation) (errors : ℕ → List WeylError) (clean : List ℕ) → Told d n ops errors clean w used base j (now (tile .entry)) (now (marks .entry)) (now (out .entry)) → Told d n ops errors clean w used r j (now (tile .exit)) (now (marks .entry)) (now (out .exit)))
+        × (r ≤ j)
+        × (j < r + 16)
+        × (length (now (tile .exit)) ≡ 4096)
+        × (length (now (spare .exit)) ≡ 4096)
+        × (length (now (out .exit)) ≡ length (now (out .entry))) ⌝ }
 {
     if base + 16 <= j {
         let t = j - base;
@@ -83,8 +105,22 @@ pub fn run(
     d: u8,
     n: usize,
 )
-    requires { ⌜ (length (now ops) < 65536) × Setting d n (now ops) (now clean) × Block d n (now tray) (now starts) (now sizes) × Lanes d n (now v) × Empty n (now v) × Filed (laneErrors (now tray) (now starts) (now sizes)) (now slots) (now counts) (now cursors) 0 × (length (now tile) ≡ 4096) × (length (now spare) ≡ 4096) × (length (now marks) ≡ 16) × (used ≤ 256) × (w ≡ 1 + 2 * measured (operationsOf d n (now ops)) (length (operationsOf d n (now ops)))) × (w < 65536) × (used * w ≤ length (now out)) ⌝ }
-    ensures { λ _. ⌜ CarriedAll d n (operationsOf d n (now (ops .entry))) (laneErrors (now (tray .entry)) (now (starts .entry)) (now (sizes .entry))) (now (v .entry)) (now (v .exit)) × Lanes d n (now (v .exit)) × AllTold d n (operationsOf d n (now (ops .entry))) (laneErrors (now (tray .entry)) (now (starts .entry)) (now (sizes .entry))) (now (clean .entry)) w used (now (out .entry)) (now (out .exit)) ⌝ }
+    requires { ⌜ (length (now ops) < 65536)
+        × Setting d n (now ops) (now clean)
+        × Block d n (now tray) (now starts) (now sizes)
+        × Lanes d n (now v)
+        × Empty n (now v)
+        × Filed (laneErrors (now tray) (now starts) (now sizes)) (now slots) (now counts) (now cursors) 0
+        × (length (now tile) ≡ 4096)
+        × (length (now spare) ≡ 4096)
+        × (length (now marks) ≡ 16)
+        × (used ≤ 256)
+        × (w ≡ 1 + 2 * measured (operationsOf d n (now ops)) (length (operationsOf d n (now ops))))
+        × (w < 65536)
+        × (used * w ≤ length (now out)) ⌝ }
+    ensures { λ _. ⌜ CarriedAll d n (operationsOf d n (now (ops .entry))) (laneErrors (now (tray .entry)) (now (starts .entry)) (now (sizes .entry))) (now (v .entry)) (now (v .exit))
+        × Lanes d n (now (v .exit))
+        × AllTold d n (operationsOf d n (now (ops .entry))) (laneErrors (now (tray .entry)) (now (starts .entry)) (now (sizes .entry))) (now (clean .entry)) w used (now (out .entry)) (now (out .exit)) ⌝ }
 {
     let count = ops.len() / 4;
     let mut k = 0;

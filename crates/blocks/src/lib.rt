@@ -4,7 +4,7 @@ ghost use Prim.Native.Nat.{_+_, _*_, _<_, _≤_};
 ghost use lib.ListN.{length};
 ghost use Rattle.book.specs.Decoded.{operationsOf};
 ghost use Rattle.tray.specs.Tray.{shotsIn, startOf, noisyAmong};
-ghost use Rattle.lane_shots.specs.LaneShots.{blank, Fits, shiftedBy, ShotRows};
+ghost use Rattle.lane_shots.specs.LaneShots.{blank, Fits, cleanEnd, shiftedBy, ShotRows};
 ghost use Rattle.blocks.specs.Blocks.{shotErrors, Assigned, Lies, Loaded, Filled};
 use entries::word;
 
@@ -79,8 +79,8 @@ fn fill_rows(
         × (noisy ≡ noisyAmong (now tray) first count)
         × (noisy ≤ 256)
         × (count * w ≤ length (now out)) ⌝ }
-    ensures { λ r. ⌜ ShotRows d n (operationsOf d n (now (ops .entry))) (record { rows = now (t .entry); results = now (clean .entry) }) (λ i. shotErrors (now (tray .entry)) (first + i)) w count (now (out .entry)) (now (out .exit))
-        × (r ≡ shiftedBy d n (operationsOf d n (now (ops .entry))) (record { rows = now (t .entry); results = now (clean .entry) }) (λ i. shotErrors (now (tray .entry)) (first + i)) count) ⌝ }
+    ensures { λ r. ⌜ ShotRows d n (operationsOf d n (now (ops .entry))) (cleanEnd (now (t .entry)) (now (clean .entry))) (λ i. shotErrors (now (tray .entry)) (first + i)) w count (now (out .entry)) (now (out .exit))
+        × (r ≡ shiftedBy d n (operationsOf d n (now (ops .entry))) (cleanEnd (now (t .entry)) (now (clean .entry))) (λ i. shotErrors (now (tray .entry)) (first + i)) count) ⌝ }
 {
     let shifted = lane_shots::fill(out, tray, starts, sizes, ops, clean, t, w, noisy, d, n);
     expand::expand(out, tray, clean, w, first, count, noisy);
@@ -112,12 +112,12 @@ fn fill_block(
         × (first < shotsIn (now tray))
         × (start ≡ startOf (now tray) first)
         × (shotsIn (now tray) * w ≤ length (now out)) ⌝ }
-    ensures { λ r. ⌜ Filled d n (operationsOf d n (now (ops .entry))) (record { rows = now (t .entry); results = now (clean .entry) }) (shotErrors (now (tray .entry))) w first (r .next) (now (out .entry)) (now (out .exit))
+    ensures { λ r. ⌜ Filled d n (operationsOf d n (now (ops .entry))) (cleanEnd (now (t .entry)) (now (clean .entry))) (shotErrors (now (tray .entry))) w first (r .next) (now (out .entry)) (now (out .exit))
         × (first < r .next)
         × (r .next ≤ shotsIn (now (tray .entry)))
         × (r .start ≡ startOf (now (tray .entry)) (r .next))
-        × (shiftedBy d n (operationsOf d n (now (ops .entry))) (record { rows = now (t .entry); results = now (clean .entry) }) (shotErrors (now (tray .entry))) (r .next)
-        ≡ shiftedBy d n (operationsOf d n (now (ops .entry))) (record { rows = now (t .entry); results = now (clean .entry) }) (shotErrors (now (tray .entry))) first + r .shifted) ⌝ }
+        × (shiftedBy d n (operationsOf d n (now (ops .entry))) (cleanEnd (now (t .entry)) (now (clean .entry))) (shotErrors (now (tray .entry))) (r .next)
+        ≡ shiftedBy d n (operationsOf d n (now (ops .entry))) (cleanEnd (now (t .entry)) (now (clean .entry))) (shotErrors (now (tray .entry))) first + r .shifted) ⌝ }
 {
     let mut starts = [0usize; 256];
     let mut sizes = [0usize; 256];
@@ -162,8 +162,8 @@ pub fn fill(
     requires { ⌜ Loaded d n (now tray)
         × Fits d n (now ops) (now clean) (now t) w
         × (shotsIn (now tray) * w ≤ length (now out)) ⌝ }
-    ensures { λ r. ⌜ Filled d n (operationsOf d n (now (ops .entry))) (record { rows = now (t .entry); results = now (clean .entry) }) (shotErrors (now (tray .entry))) w 0 (shotsIn (now (tray .entry))) (now (out .entry)) (now (out .exit))
-        × (r ≡ shiftedBy d n (operationsOf d n (now (ops .entry))) (record { rows = now (t .entry); results = now (clean .entry) }) (shotErrors (now (tray .entry))) (shotsIn (now (tray .entry)))) ⌝ }
+    ensures { λ r. ⌜ Filled d n (operationsOf d n (now (ops .entry))) (cleanEnd (now (t .entry)) (now (clean .entry))) (shotErrors (now (tray .entry))) w 0 (shotsIn (now (tray .entry))) (now (out .entry)) (now (out .exit))
+        × (r ≡ shiftedBy d n (operationsOf d n (now (ops .entry))) (cleanEnd (now (t .entry)) (now (clean .entry))) (shotErrors (now (tray .entry))) (shotsIn (now (tray .entry)))) ⌝ }
 {
     let shots = word(tray, 0);
     let mut start = 2 + 2 * shots;

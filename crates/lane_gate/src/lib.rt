@@ -12,8 +12,13 @@ ghost use Rattle.lane_gate.specs.LaneGate.{AllAllowed};
 
 // Operation k on each lane, by its code: the reader has accepted the entry, so nothing is tested again.
 pub fn perform(v: &mut [u8], ops: &[u8], k: usize, d: u8, n: usize)
-    requires { ⌜ (k < length (now ops) / 4) × (n ≤ 64) × (listed d ≡ true) × AllAllowed d n (operationsOf d n (now ops)) × Lanes d n (now v) ⌝ }
-    ensures { λ _. ⌜ Each (gateFrame d n (opAt (operationsOf d n (now (ops .entry))) k)) n (now (v .entry)) (now (v .exit)) × Lanes d n (now (v .exit)) ⌝ }
+    requires { ⌜ (k < length (now ops) / 4)
+        × (n ≤ 64)
+        × (listed d ≡ true)
+        × AllAllowed d n (operationsOf d n (now ops))
+        × Lanes d n (now v) ⌝ }
+    ensures { λ _. ⌜ Each (gateFrame d n (opAt (operationsOf d n (now (ops .entry))) k)) n (now (v .entry)) (now (v .exit))
+        × Lanes d n (now (v .exit)) ⌝ }
 {
     let at = 4 * k;
     let code = ops[at];

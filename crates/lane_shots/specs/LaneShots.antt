@@ -36,6 +36,10 @@ pub record Fits (d n : ℕ) (ops clean t : List ℕ) (w : ℕ) : Type 0 where
   pub width : w ≡ 1 + 2 * measured (operationsOf d n ops) (length (operationsOf d n ops))
   pub narrow : w < 65536
 
+-- what the clean run left in its two buffers
+abbrev pub cleanEnd : (t results : List ℕ) → State
+cleanEnd t results = record { rows = t; results = results }
+
 -- shots by the clean run; shot i has the errors `errors i`
 module _ (d n : ℕ) (ops : List Operation) (clean : State) (errors : ℕ → List WeylError) where
   abbrev pub bytesBy : ℕ → List ℕ

@@ -4,7 +4,7 @@ ghost use Prim.Native.Nat.{_*_, _≤_};
 ghost use lib.ListN.{length};
 ghost use Rattle.book.specs.Decoded.{operationsOf};
 ghost use Rattle.calendar.specs.Passing.{laneErrors, Block};
-ghost use Rattle.lane_shots.specs.LaneShots.{blank, AllFiled, Fits, shiftedBy, ShotRows};
+ghost use Rattle.lane_shots.specs.LaneShots.{blank, AllFiled, Fits, cleanEnd, shiftedBy, ShotRows};
 
 // Every lane stands in the list of place 0.
 fn file(slots: &mut [u8], counts: &mut [usize])
@@ -51,8 +51,8 @@ fn fill_in(
         × Fits d n (now ops) (now clean) (now t) w
         × (used ≤ 256)
         × (used * w ≤ length (now out)) ⌝ }
-    ensures { λ r. ⌜ ShotRows d n (operationsOf d n (now (ops .entry))) (record { rows = now (t .entry); results = now (clean .entry) }) (laneErrors (now (tray .entry)) (now (starts .entry)) (now (sizes .entry))) w used (now (out .entry)) (now (out .exit))
-        × (r ≡ shiftedBy d n (operationsOf d n (now (ops .entry))) (record { rows = now (t .entry); results = now (clean .entry) }) (laneErrors (now (tray .entry)) (now (starts .entry)) (now (sizes .entry))) used) ⌝ }
+    ensures { λ r. ⌜ ShotRows d n (operationsOf d n (now (ops .entry))) (cleanEnd (now (t .entry)) (now (clean .entry))) (laneErrors (now (tray .entry)) (now (starts .entry)) (now (sizes .entry))) w used (now (out .entry)) (now (out .exit))
+        × (r ≡ shiftedBy d n (operationsOf d n (now (ops .entry))) (cleanEnd (now (t .entry)) (now (clean .entry))) (laneErrors (now (tray .entry)) (now (starts .entry)) (now (sizes .entry))) used) ⌝ }
 {
     file(slots, counts);
     block::run(
@@ -95,8 +95,8 @@ pub fn fill(
         × Fits d n (now ops) (now clean) (now t) w
         × (used ≤ 256)
         × (used * w ≤ length (now out)) ⌝ }
-    ensures { λ r. ⌜ ShotRows d n (operationsOf d n (now (ops .entry))) (record { rows = now (t .entry); results = now (clean .entry) }) (laneErrors (now (tray .entry)) (now (starts .entry)) (now (sizes .entry))) w used (now (out .entry)) (now (out .exit))
-        × (r ≡ shiftedBy d n (operationsOf d n (now (ops .entry))) (record { rows = now (t .entry); results = now (clean .entry) }) (laneErrors (now (tray .entry)) (now (starts .entry)) (now (sizes .entry))) used) ⌝ }
+    ensures { λ r. ⌜ ShotRows d n (operationsOf d n (now (ops .entry))) (cleanEnd (now (t .entry)) (now (clean .entry))) (laneErrors (now (tray .entry)) (now (starts .entry)) (now (sizes .entry))) w used (now (out .entry)) (now (out .exit))
+        × (r ≡ shiftedBy d n (operationsOf d n (now (ops .entry))) (cleanEnd (now (t .entry)) (now (clean .entry))) (laneErrors (now (tray .entry)) (now (starts .entry)) (now (sizes .entry))) used) ⌝ }
 {
     let mut v = [0u8; 32768];
     let mut slots = [0u8; 65536];

@@ -13,7 +13,11 @@ ghost use Rattle.lanes.specs.Lanes.{lane, Lanes, Each, Alone};
 use operation::WeylError;
 
 fn fourier_lane(v: &mut [u8], q: usize, l: usize, d: u8, n: usize)
-    requires { ⌜ (n ≤ 64) × (l < 256) × (512 * n ≤ length (now v)) × Powers d n (lane n (now v) l) × (q < n) ⌝ }
+    requires { ⌜ (n ≤ 64)
+        × (l < 256)
+        × (512 * n ≤ length (now v))
+        × Powers d n (lane n (now v) l)
+        × (q < n) ⌝ }
     ensures { λ _. ⌜ Alone (gatePowers d n (Fourier q)) n l (now (v .entry)) (now (v .exit)) ⌝ }
 {
     let x = 256 * q + l;
@@ -34,7 +38,12 @@ pub fn fourier_lanes(v: &mut [u8], q: usize, d: u8, n: usize)
 }
 
 fn phase_gate_lane(v: &mut [u8], q: usize, l: usize, d: u8, n: usize)
-    requires { ⌜ (n ≤ 64) × (l < 256) × (512 * n ≤ length (now v)) × Powers d n (lane n (now v) l) × (q < n) × (d ≤ 31) ⌝ }
+    requires { ⌜ (n ≤ 64)
+        × (l < 256)
+        × (512 * n ≤ length (now v))
+        × Powers d n (lane n (now v) l)
+        × (q < n)
+        × (d ≤ 31) ⌝ }
     ensures { λ _. ⌜ Alone (gatePowers d n (PhaseGate q)) n l (now (v .entry)) (now (v .exit)) ⌝ }
 {
     let x = 256 * q + l;
@@ -52,7 +61,13 @@ pub fn phase_gate_lanes(v: &mut [u8], q: usize, d: u8, n: usize)
 }
 
 fn sum_lane(v: &mut [u8], c: usize, t: usize, l: usize, d: u8, n: usize)
-    requires { ⌜ (n ≤ 64) × (l < 256) × (512 * n ≤ length (now v)) × Powers d n (lane n (now v) l) × (c < n) × (t < n) × (d ≤ 31) ⌝ }
+    requires { ⌜ (n ≤ 64)
+        × (l < 256)
+        × (512 * n ≤ length (now v))
+        × Powers d n (lane n (now v) l)
+        × (c < n)
+        × (t < n)
+        × (d ≤ 31) ⌝ }
     ensures { λ _. ⌜ Alone (gatePowers d n (Sum c t)) n l (now (v .entry)) (now (v .exit)) ⌝ }
 {
     let xc = 256 * c + l;
@@ -75,7 +90,13 @@ pub fn sum_lanes(v: &mut [u8], c: usize, t: usize, d: u8, n: usize)
 }
 
 fn cz_lane(v: &mut [u8], c: usize, t: usize, l: usize, d: u8, n: usize)
-    requires { ⌜ (n ≤ 64) × (l < 256) × (512 * n ≤ length (now v)) × Powers d n (lane n (now v) l) × (c < n) × (t < n) × (d ≤ 31) ⌝ }
+    requires { ⌜ (n ≤ 64)
+        × (l < 256)
+        × (512 * n ≤ length (now v))
+        × Powers d n (lane n (now v) l)
+        × (c < n)
+        × (t < n)
+        × (d ≤ 31) ⌝ }
     ensures { λ _. ⌜ Alone (gatePowers d n (Cz c t)) n l (now (v .entry)) (now (v .exit)) ⌝ }
 {
     let xc = 256 * c + l;
@@ -98,7 +119,12 @@ pub fn cz_lanes(v: &mut [u8], c: usize, t: usize, d: u8, n: usize)
 }
 
 fn swap_lane(v: &mut [u8], c: usize, t: usize, l: usize, d: u8, n: usize)
-    requires { ⌜ (n ≤ 64) × (l < 256) × (512 * n ≤ length (now v)) × Powers d n (lane n (now v) l) × (c < n) × (t < n) ⌝ }
+    requires { ⌜ (n ≤ 64)
+        × (l < 256)
+        × (512 * n ≤ length (now v))
+        × Powers d n (lane n (now v) l)
+        × (c < n)
+        × (t < n) ⌝ }
     ensures { λ _. ⌜ Alone (gatePowers d n (Swap c t)) n l (now (v .entry)) (now (v .exit)) ⌝ }
 {
     let xc = 256 * c + l;
@@ -125,7 +151,15 @@ pub fn swap_lanes(v: &mut [u8], c: usize, t: usize, d: u8, n: usize)
 }
 
 fn multiplier_lane(v: &mut [u8], q: usize, u: u8, w: u8, m: u16, l: usize, d: u8, n: usize)
-    requires { ⌜ (n ≤ 64) × (l < 256) × (512 * n ≤ length (now v)) × Powers d n (lane n (now v) l) × (q < n) × (u < d) × (w ≡ inverse d u) × (w < d) × Reciprocal d m ⌝ }
+    requires { ⌜ (n ≤ 64)
+        × (l < 256)
+        × (512 * n ≤ length (now v))
+        × Powers d n (lane n (now v) l)
+        × (q < n)
+        × (u < d)
+        × (w ≡ inverse d u)
+        × (w < d)
+        × Reciprocal d m ⌝ }
     ensures { λ _. ⌜ Alone (gatePowers d n (Multiplier q u)) n l (now (v .entry)) (now (v .exit)) ⌝ }
 {
     let x = 256 * q + l;
@@ -137,7 +171,13 @@ fn multiplier_lane(v: &mut [u8], q: usize, u: u8, w: u8, m: u16, l: usize, d: u8
 }
 
 pub fn multiplier_lanes(v: &mut [u8], q: usize, u: u8, w: u8, m: u16, d: u8, n: usize)
-    requires { ⌜ (n ≤ 64) × Lanes d n (now v) × (q < n) × (u < d) × (w ≡ inverse d u) × (w < d) × Reciprocal d m ⌝ }
+    requires { ⌜ (n ≤ 64)
+        × Lanes d n (now v)
+        × (q < n)
+        × (u < d)
+        × (w ≡ inverse d u)
+        × (w < d)
+        × Reciprocal d m ⌝ }
     ensures { λ _. ⌜ Each (gatePowers d n (Multiplier q u)) n (now (v .entry)) (now (v .exit)) ⌝ }
 {
     for l in 0..256 {
@@ -147,7 +187,14 @@ pub fn multiplier_lanes(v: &mut [u8], q: usize, u: u8, w: u8, m: u16, d: u8, n: 
 
 // The error on lane l.
 pub fn error_lane(v: &mut [u8], e: WeylError, l: usize, d: u8, n: usize)
-    requires { ⌜ (n ≤ 64) × (l < 256) × (512 * n ≤ length (now v)) × Powers d n (lane n (now v) l) × (d ≤ 31) × (e .qudit < n) × (e .p < d) × (e .s < d) ⌝ }
+    requires { ⌜ (n ≤ 64)
+        × (l < 256)
+        × (512 * n ≤ length (now v))
+        × Powers d n (lane n (now v) l)
+        × (d ≤ 31)
+        × (e .qudit < n)
+        × (e .p < d)
+        × (e .s < d) ⌝ }
     ensures { λ _. ⌜ Alone (errorFrame d n e) n l (now (v .entry)) (now (v .exit)) ⌝ }
 {
     let q = e.qudit;

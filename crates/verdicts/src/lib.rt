@@ -21,7 +21,11 @@ fn copy_lane(frame: &mut [u8], v: &[u8], l: usize, n: usize)
 
 // The shift of row i.
 fn shift_of(frame: &[u8], t: &[u8], i: usize, d: u8, m: u64, n: usize) -> u8
-    requires { ⌜ (n ≤ 64) × (i < 2 * n) × Tableau d n (now t) × Powers d n (now frame) × WideReciprocal d m ⌝ }
+    requires { ⌜ (n ≤ 64)
+        × (i < 2 * n)
+        × Tableau d n (now t)
+        × Powers d n (now frame)
+        × WideReciprocal d m ⌝ }
     ensures { λ r. ⌜ r ≡ shiftAt d n (now (frame .entry)) (now (t .entry)) i ⌝ }
 {
     let w = 2 * n + 1;
@@ -47,7 +51,12 @@ fn verdict(frame: &[u8], t: &[u8], d: u8, m: u64, n: usize) -> usize
 
 // The verdict of lane l.
 fn verdict_in(frame: &mut [u8], v: &[u8], t: &[u8], l: usize, d: u8, m: u64, n: usize) -> usize
-    requires { ⌜ (n ≤ 64) × (l < 256) × (length (now frame) ≡ 2 * n) × Lanes d n (now v) × Tableau d n (now t) × WideReciprocal d m ⌝ }
+    requires { ⌜ (n ≤ 64)
+        × (l < 256)
+        × (length (now frame) ≡ 2 * n)
+        × Lanes d n (now v)
+        × Tableau d n (now t)
+        × WideReciprocal d m ⌝ }
     ensures { λ r. ⌜ r ≡ verdictOf d n (lane n (now (v .entry)) l) (now (t .entry)) ⌝ }
 {
     copy_lane(frame, v, l, n);
@@ -65,8 +74,17 @@ pub fn verdict_of(v: &[u8], t: &[u8], l: usize, d: u8, m: u64, n: usize) -> usiz
 
 // Writes the verdict of each of the first `used` lanes to the first byte of its shot. How many are shifted is returned.
 pub fn judge(out: &mut [u8], v: &[u8], t: &[u8], w: usize, used: usize, d: u8, n: usize) -> usize
-    requires { ⌜ (3 ≤ d) × (d ≤ 31) × (n ≤ 64) × (used ≤ 256) × (0 < w) × (w < 65536) × (used * w ≤ length (now out)) × Lanes d n (now v) × Tableau d n (now t) ⌝ }
-    ensures { λ r. ⌜ (r ≡ shiftedLanes d n (now (v .entry)) (now (t .entry)) used) × Judged w used used (verdictIn d n (now (v .entry)) (now (t .entry))) (now (out .entry)) (now (out .exit)) ⌝ }
+    requires { ⌜ (3 ≤ d)
+        × (d ≤ 31)
+        × (n ≤ 64)
+        × (used ≤ 256)
+        × (0 < w)
+        × (w < 65536)
+        × (used * w ≤ length (now out))
+        × Lanes d n (now v)
+        × Tableau d n (now t) ⌝ }
+    ensures { λ r. ⌜ (r ≡ shiftedLanes d n (now (v .entry)) (now (t .entry)) used)
+        × Judged w used used (verdictIn d n (now (v .entry)) (now (t .entry))) (now (out .entry)) (now (out .exit)) ⌝ }
 {
     let m = modular::wide_reciprocal(d);
     let mut shifted = 0;

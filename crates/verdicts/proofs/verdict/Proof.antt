@@ -1,16 +1,16 @@
 -- `verdicts::verdict` meets its contract.
 -- Assumes nothing.
 use mathlib.Core.Path.{_≡_, refl, sym, ap, _∙_}
-use mathlib.Core.Bool.{Bool, true, cond}
+use mathlib.Core.Bool.{Bool, true, false, cond}
 use denote.Ref.{now}
-use Prim.Native.Nat.{_-_, _≤_}
+use Prim.Native.Nat.{_+_, _-_, _≤_}
 use native.Mathlib.Nat.{le-antisymm}
 use native.Mathlib.Omega.{arith}
 use borrow.Author.Tests.{eq-eqb, ne-eqb}
 use Rattle.search.specs.Search.{all}
 use Rattle.search.proofs.Search.{all-more, all-fails}
 use borrow.Author.Needs.{needs}
-use Rattle.run.specs.Frame.{noShift, verdictOf}
+use Rattle.run.specs.Frame.{shiftAt, noShift, verdictOf}
 use Rattle.verdicts.proofs.verdict.Statement.{statement}
 use Rattle.verdicts.proofs.verdict.Tie as tie
 
@@ -32,7 +32,13 @@ shift-of-requires c κs = let s = c .before .before .before .before in (s .pre .
 
 returns : tie.Need-returns Inv-loop μ-loop
 unfolding verdictOf
-returns c = rw (all-fails _ _ _ (c .before .before .loop-test .taken) (ne-eqb _ _ (rw (c .before .shift-of .ensures) at (c .if1 .taken))))
+returns c =
+    let a = c .before .before .before .before .before .before .args in
+    let i = c .before .before .before .loop .i in
+    let test = noShift (a .d) (a .n) (now (a .frame)) (now (a .t)) in
+    let is : c .before .shift-of .result ≡ shiftAt (a .d) (a .n) (now (a .frame)) (now (a .t)) (a .n + i) = c .before .shift-of .ensures in
+    let fails : all test (a .n) ≡ false = all-fails test (a .n) i (c .before .before .loop-test .taken) (ne-eqb _ 0 (rw is at (c .if1 .taken))) in
+    sym (ap (λ (x : Bool). cond x 0 1) fails)
 
 add-i : tie.Need-add-i Inv-loop μ-loop
 add-i c = search needs
