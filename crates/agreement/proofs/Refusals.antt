@@ -23,7 +23,7 @@ use Rattle.written.proofs.Writer.{write-cases}
 use Rattle.direct.specs.DirectBook.{Left, roomy, directTold, directBook}
 use Rattle.framed.specs.FrameBook.{Buffers, FrameLeft, frameRoomy, frameTold, frameBook}
 use Rattle.shots.specs.Shots.{trayBook}
-use Rattle.shots.proofs.Answers.{tray-cases}
+use Rattle.shots.proofs.Refusals.{tray-cases}
 use Rattle.agreement.specs.Refusals.{runNumbers, trayNumbers, writerNumbers, NumbersListed, WriterNamesBody, LayerUnchanged, WriterUnchanged, DirectUnchanged, FrameUnchanged, TrayUnchanged}
 
 layer-listed : (d n : ℕ) (t : List ℕ) → among (layerNumber d n t) (0 ∷ 2 ∷ 3 ∷ 8 ∷ []) ≡ true

@@ -16,24 +16,23 @@ use Rattle.search.proofs.Search.{both}
 use Rattle.tableau.specs.Tableau.{part}
 use Rattle.tableau.proofs.Parts.{part-length, part-at}
 use Rattle.circuit.specs.Circuit.{measured}
-use Rattle.body.specs.Body.{lengthFits, badError, accepted}
+use Rattle.body.specs.Body.{lengthFits, accepted}
 use Rattle.book.specs.Book.{readBook, bodyOf}
 use Rattle.book.specs.Decoded.{Means, opsIn, choicesIn, errorsOf, measurementsIn}
 use Rattle.book.proofs.Meaning.{accepted-means}
 use Rattle.written.specs.Written.{Back}
-use Rattle.written.specs.Errorless.{errorless, TakenOut}
 use Rattle.written.proofs.Read.{bodies-back}
 use Rattle.written.proofs.Errorless.{with-errors, errors-taken-out}
 use Rattle.tray.specs.Tray.{shotsIn, lengthAt, startOf, shotBody}
 use Rattle.tray.proofs.Tabled.{tabled-says, body-inside}
 use Rattle.tray.proofs.GoodShots.{shot-good}
-use Rattle.run.specs.Frame.{Ended, noShift, verdictOf, framedLeave, frameRunFrom, frameRun}
+use Rattle.run.specs.Frame.{Ended, verdictOf, framedLeave, frameRunFrom, frameRun}
 use Rattle.framed.specs.FrameBook.{Buffers, frameRoomy, frameEnded, frameTold, frameBook}
 use Rattle.framed.proofs.Books.{room-of}
-use Rattle.shots.specs.Shots.{runOf, cleanAmong, shiftedAmong, filledBy, TrayLeft, trayRoomy, trayTold, trayBook}
+use Rattle.shots.specs.Shots.{runOf, cleanAmong, shiftedAmong, filledBy, TrayLeft, shotsTold, trayRoomy, trayTold, trayBook}
 use Rattle.shots.proofs.Same.{shot-any}
 use Rattle.shots.proofs.Rows.{shot-at, counts-are}
-use Rattle.shots.proofs.Answers.{Goes, accepted-cases}
+use Rattle.shots.proofs.Refusals.{Goes, accepted-cases}
 use Rattle.agreement.specs.Tray.{shotBook, ShotRuns, ShotsAreFrameRuns, verdictsIn, TrayCounts, OwnErrorsUnused}
 
 module _ (s tray t out : List ℕ) {d n operations errors choices : ℕ} (e : readBook s ≡ accepted d n operations errors choices) where
@@ -46,15 +45,10 @@ module _ (s tray t out : List ℕ) {d n operations errors choices : ℕ} (e : re
   count : measurementsIn s d n ≡ choices
   count = ap (measured (opsIn s d n)) (means .operation-count) ∙ means .measurement-count
 
-  -- where it is not refused, this holds
-  goes-cases : (P : TrayLeft → Type 0)
-      → (Goes d n operations s tray t out → P (record {
-        number = 0;
-        place = cleanAmong d n (opsIn s d n) (choicesIn s) t tray (shotsIn tray);
-        shifted = shiftedAmong d n (opsIn s d n) (choicesIn s) t tray (shotsIn tray);
-        out = filledBy d n (opsIn s d n) (choicesIn s) t tray out (shotsIn tray);
-      }))
-      → trayBook s tray t out .number ≡ 0 → P (trayBook s tray t out)
+  -- what holds where nothing refuses the tray, holds where its number is 0
+  goes-cases : (P : TrayLeft → Type 0) → (Goes d n operations s tray t out → P (shotsTold d n (opsIn s d n) (choicesIn s) tray t out))
+      → trayBook s tray t out .number ≡ 0
+      → P (trayBook s tray t out)
   unfolding trayBook
   goes-cases P goes =
       rw e

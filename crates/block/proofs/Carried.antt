@@ -2,7 +2,7 @@
 -- Assumes nothing.
 use mathlib.Core.Path.{_≡_, refl, sym, ap, _∙_}
 use mathlib.Core.List.{List}
-use Prim.Native.Nat.{ℕ, zero, suc, _+_, _<_}
+use Prim.Native.Nat.{ℕ, _+_}
 use native.Mathlib.Numerals.{add-one}
 use native.Mathlib.Omega.{arith}
 use lib.ListN.{length}
@@ -12,7 +12,7 @@ use Rattle.operation.specs.declared.WeylError.{WeylError}
 use Rattle.operation.specs.Gate.{gatePowers, gateFrame}
 use Rattle.circuit.specs.Circuit.{opAt, kind}
 use Rattle.run.specs.Frame.{strikeFrame}
-use Rattle.run.specs.Raised.{carryBy, struckFrame, carried, finalFrame}
+use Rattle.run.specs.Raised.{carryBy, struckFrame, carried}
 use Rattle.lanes.specs.Lanes.{lane, Each}
 use Rattle.calendar.specs.Calendar.{AllStruck}
 use Rattle.block.specs.Carried.{CarriedTo, CarriedAll}

@@ -10,7 +10,7 @@ use lib.Seq.{getD-set-same, getD-set-other}
 use Rattle.row.specs.Row.{xOf}
 use Rattle.operation.specs.declared.Operation.{Operation}
 use Rattle.operation.specs.declared.WeylError.{WeylError}
-use Rattle.circuit.specs.Circuit.{opAt, gate, measures, kind, tallyKind, measured}
+use Rattle.circuit.specs.Circuit.{opAt, measures, kind, tallyKind, measured}
 use Rattle.run.specs.Frame.{noFrame, strikeFrame}
 use Rattle.run.specs.Raised.{struckFrame, carried, resultShifts}
 use Rattle.run.proofs.Shifts.{shift-of}

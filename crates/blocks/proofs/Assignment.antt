@@ -1,10 +1,10 @@
 -- Shots that have errors, each in its lane.
 -- Assumes nothing.
 use mathlib.Core.Path.{_≡_, refl, sym, ap, _∙_}
-use mathlib.Core.Logic.{_≢_, _⊎_, inl, inr, ⊎-elim}
+use mathlib.Core.Logic.{_≢_, _⊎_, inl, inr}
 use mathlib.Core.Bool.{true, false, false≢true, not, cond, _&&_}
 use mathlib.Core.List.{List, []}
-use Prim.Native.Nat.{ℕ, zero, suc, _+_, _*_, _/_, _<_, _≤_}
+use Prim.Native.Nat.{ℕ, _+_, _<_, _≤_}
 use native.Mathlib.Numerals.{add-one}
 use native.Mathlib.Decide.{ℕ-discrete}
 use native.Mathlib.Omega.{arith}
@@ -15,10 +15,9 @@ use borrow.Author.Tests.{eq-eqb, ne-eqb, ltb-true, lt-ltb}
 use Rattle.search.proofs.Search.{both}
 use Rattle.row.specs.Row.{tab}
 use Rattle.tableau.specs.Tableau.{part}
-use Rattle.operation.specs.declared.WeylError.{WeylError}
 use Rattle.circuit.specs.Circuit.{Strikes}
 use Rattle.book.specs.Decoded.{errorsOf}
-use Rattle.tray.specs.Tray.{shotsIn, lengthAt, startOf, shotBody, noisyAmong}
+use Rattle.tray.specs.Tray.{shotsIn, lengthAt, startOf, noisyAmong}
 use Rattle.calendar.specs.Passing.{laneErrors, Block}
 use Rattle.lane_shots.specs.LaneShots.{blank}
 use Rattle.lane_shots.proofs.Starting.{blank-length, zeros}

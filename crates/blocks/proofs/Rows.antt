@@ -1,9 +1,8 @@
 -- The rows of a block, each in its place, are the bytes of its shots.
 -- Assumes nothing.
 use mathlib.Core.Path.{_≡_, refl, sym, ap, _∙_}
-use mathlib.Core.Logic.{_≢_}
 use mathlib.Core.Bool.{true}
-use mathlib.Core.List.{List, [], _∷_}
+use mathlib.Core.List.{List, []}
 use Prim.Native.Nat.{ℕ, zero, suc, _+_, _*_, _<_, _≤_}
 use native.Mathlib.Decide.{ℕ-discrete}
 use native.Mathlib.Numerals.{add-one}
@@ -20,7 +19,6 @@ use Rattle.run.specs.Direct.{State}
 use Rattle.run.specs.Frame.{noFrame, verdictOf}
 use Rattle.run.specs.Raised.{finalFrame}
 use Rattle.carrying.proofs.NoErrors.{final-clean}
-use Rattle.tile.specs.Tile.{shotAt}
 use Rattle.calendar.specs.Passing.{laneErrors}
 use Rattle.shots.specs.Clean.{cleanPlus}
 use Rattle.shots.proofs.NoErrors.{clean-alone}

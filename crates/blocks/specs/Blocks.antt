@@ -11,7 +11,7 @@ use Rattle.book.specs.Decoded.{errorsOf}
 use Rattle.tray.specs.Tray.{shotsIn, lengthAt, startOf, shotBody, noisyAmong}
 use Rattle.run.specs.Direct.{State}
 use Rattle.tile.specs.Tile.{shotAt}
-use Rattle.lane_shots.specs.LaneShots.{Fits, bytesBy}
+use Rattle.lane_shots.specs.LaneShots.{bytesBy}
 
 -- the errors of shot i
 abbrev pub shotErrors : List ℕ → ℕ → List WeylError

@@ -1,13 +1,11 @@
 -- What a block writes to a shot's bytes is the clean run with its carried frame added.
 -- Assumes nothing.
 use mathlib.Core.Path.{_≡_, refl, sym, ap, ap₂, _∙_}
-use mathlib.Core.Bool.{cond}
-use mathlib.Core.List.{List, [], _∷_}
+use mathlib.Core.List.{List, _∷_}
 use Prim.Native.Nat.{ℕ, zero, suc, _+_, _*_, _/_, _%_, _<_, _≤_}
 use native.Mathlib.Nat.{div-add-mod, mod-lt}
 use native.Mathlib.Decide.{ℕ-discrete}
 use native.Mathlib.Omega.{arith}
-use lib.Dec.{eqb}
 use lib.ListN.{length, getD}
 use lib.Seq.{ext-getD}
 use borrow.Author.Tests.{eq-eqb, ne-eqb}
@@ -21,7 +19,6 @@ use Rattle.run.specs.Direct.{State}
 use Rattle.run.specs.Frame.{noFrame, verdictOf}
 use Rattle.run.specs.Raised.{finalFrame, resultShifts}
 use Rattle.tile.specs.Tile.{shotAt}
-use Rattle.lanes.specs.Lanes.{lane}
 use Rattle.block.specs.Carried.{CarriedAll}
 use Rattle.block.specs.Block.{Empty, AllTold}
 use Rattle.verdicts.specs.Verdicts.{shiftedLanes, Judged, verdictIn}

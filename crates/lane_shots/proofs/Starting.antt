@@ -9,7 +9,6 @@ use lib.ListN.{length, getD, set, length-set, length-replicate}
 use lib.Seq.{getD-set-same, getD-set-other, ext-getD}
 use Rattle.row.proofs.Fill.{tab-length, tab-get}
 use Rattle.operation.specs.declared.WeylError.{WeylError}
-use Rattle.run.specs.Frame.{noFrame}
 use Rattle.run.proofs.Frames.{no-frame}
 use Rattle.lanes.specs.Lanes.{powerAt, lane, Lanes}
 use Rattle.calendar.specs.Calendar.{waiting, Filed}

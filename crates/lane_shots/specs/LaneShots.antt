@@ -1,7 +1,7 @@
 -- The bytes of up to 256 shots, one in each lane, by the clean run.
 use mathlib.Core.Path.{_≡_}
 use mathlib.Core.List.{List}
-use Prim.Native.Nat.{ℕ, zero, suc, _+_, _*_, _<_, _≤_}
+use Prim.Native.Nat.{ℕ, zero, suc, _+_, _*_, _<_}
 use lib.ListN.{length, getD, replicate}
 use Rattle.tableau.specs.Tableau.{Tableau}
 use Rattle.operation.specs.declared.Operation.{Operation}

@@ -1,6 +1,5 @@
 // A tray of shots: one clean run on a copy of the tableau, then the shots in blocks.
 ghost use mathlib.Core.Path.{_≡_};
-ghost use mathlib.Core.List.{[]};
 ghost use Prim.Native.Nat.{_+_, _*_, _≤_};
 ghost use lib.ListN.{length};
 ghost use Rattle.tableau.specs.Tableau.{part};

@@ -67,9 +67,10 @@ pub fn tray_run(book: &[u8], tray: &[u8], t: &[u8], out: &mut [u8]) -> TrayAnswe
         d,
         n,
     );
+    let clean = shots - shifted;
     TrayAnswer {
         number: 0,
-        place: shots - shifted,
+        place: clean,
         shifted,
     }
 }

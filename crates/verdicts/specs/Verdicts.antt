@@ -1,7 +1,7 @@
 -- The verdicts of shots, each by the shifts of its lane.
 use mathlib.Core.Path.{_≡_}
 use mathlib.Core.List.{List}
-use Prim.Native.Nat.{ℕ, zero, suc, _+_, _*_, _<_, _≤_}
+use Prim.Native.Nat.{ℕ, zero, suc, _+_, _<_}
 use lib.ListN.{length, getD}
 use Rattle.run.specs.Frame.{verdictOf}
 use Rattle.lanes.specs.Lanes.{lane}

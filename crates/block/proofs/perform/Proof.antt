@@ -1,10 +1,9 @@
 -- `block::perform` meets its contract.
 -- Assumes nothing.
-use mathlib.Core.Path.{_≡_, refl, sym, ap, _∙_}
-use Prim.Native.Nat.{ℕ, _<_}
+use mathlib.Core.Path.{ap, _∙_}
 use native.Mathlib.Omega.{arith}
 use denote.Ref.{now}
-use lib.ListN.{length, length-set}
+use lib.ListN.{length-set}
 use Rattle.modular.proofs.Listed.{dimension}
 use Rattle.circuit.specs.Circuit.{kind}
 use Rattle.book.proofs.Lists.{op-count}

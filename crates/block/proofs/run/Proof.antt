@@ -1,7 +1,7 @@
 -- `block::run` meets its contract.
 -- Assumes nothing.
-use mathlib.Core.Path.{_≡_, refl, sym, ap, _∙_}
-use Prim.Native.Nat.{ℕ, _+_, _-_, _*_, _/_, _<_, _≤_}
+use mathlib.Core.Path.{_≡_, refl, sym, _∙_}
+use Prim.Native.Nat.{ℕ, _+_, _-_, _/_, _<_, _≤_}
 use native.Mathlib.Nat.{le-antisymm}
 use native.Mathlib.Omega.{arith}
 use denote.Ref.{now}
@@ -15,7 +15,6 @@ use Rattle.run.proofs.Results.{measured-more}
 use Rattle.calendar.specs.Passing.{laneErrors}
 use Rattle.block.proofs.Carried.{carried-none, carried-end}
 use Rattle.block.proofs.Told.{told-none, next-step, all-flushed, Going}
-use borrow.Author.Needs.{needs}
 use Rattle.block.proofs.run.Statement.{statement}
 use Rattle.block.proofs.run.Tie as tie
 

@@ -3,13 +3,13 @@
 use native.Mathlib.Omega.{arith}
 use borrow.Author.Needs.{needs}
 use mathlib.Core.Path.{_≡_, refl, sym, ap, ap₂, _∙_}
-use mathlib.Core.Bool.{true, false, _&&_}
+use mathlib.Core.Bool.{false, _&&_}
 use mathlib.Core.List.{List}
-use Prim.Native.Nat.{ℕ, zero, suc, _-_, _+_, _*_, _≤_, _<_}
+use Prim.Native.Nat.{ℕ, zero, suc, _-_, _+_, _≤_, _<_}
 use denote.Ref.{now}
 use lib.Dec.{ltb}
 use lib.ListN.{length}
-use Rattle.tray.specs.Tray.{shotsIn, lengthAt, startOf, noisyAmong}
+use Rattle.tray.specs.Tray.{shotsIn, startOf, noisyAmong}
 use Rattle.lane_shots.proofs.Starting.{blank-length}
 use Rattle.blocks.specs.Blocks.{Assigned}
 use Rattle.blocks.proofs.Assignment.{taken-both, left-neither, noisy-counted, assigned-none, assigned-more}

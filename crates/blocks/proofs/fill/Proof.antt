@@ -2,13 +2,12 @@
 -- Assumes nothing.
 use native.Mathlib.Omega.{arith}
 use borrow.Author.Needs.{needs}
-use mathlib.Core.Path.{_≡_, refl, sym, ap, _∙_}
-use Prim.Native.Nat.{ℕ, _-_, _+_, _*_, _≤_, _<_}
+use mathlib.Core.Path.{_≡_, sym, ap, _∙_}
+use Prim.Native.Nat.{ℕ, _-_, _+_, _*_, _≤_}
 use native.Mathlib.Nat.{le-antisymm, mul-le-mul-right}
 use denote.Ref.{now}
-use lib.ListN.{length}
 use Rattle.book.specs.Decoded.{operationsOf}
-use Rattle.tray.specs.Tray.{shotsIn, startOf}
+use Rattle.tray.specs.Tray.{startOf}
 use Rattle.lane_shots.specs.LaneShots.{shiftedBy}
 use Rattle.blocks.specs.Blocks.{shotErrors, Filled}
 use Rattle.blocks.proofs.Filling.{filled-none, filled-more, shifted-none, shifted-few}

@@ -2,12 +2,12 @@
 -- Assumes nothing.
 use native.Mathlib.Omega.{arith}
 use borrow.Author.Needs.{needs}
-use mathlib.Core.Path.{_≡_, sym, ap, _∙_}
-use Prim.Native.Nat.{ℕ, _*_, _≤_}
+use mathlib.Core.Path.{ap, _∙_}
+use Prim.Native.Nat.{_≤_}
 use native.Mathlib.Nat.{mul-le-mul-right}
 use denote.Ref.{now}
 use Rattle.modular.proofs.Listed.{dimension}
-use Rattle.lane_shots.specs.LaneShots.{shiftedBy, ShotRows}
+use Rattle.lane_shots.specs.LaneShots.{shiftedBy}
 use Rattle.expand.proofs.Noisy.{noisy-most}
 use Rattle.blocks.proofs.Assignment.{block-of}
 use Rattle.blocks.proofs.Rows.{shifted-all, shot-rows}

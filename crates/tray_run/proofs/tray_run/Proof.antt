@@ -174,8 +174,8 @@ run-requires c κs =
     let tested = held (v .is-valid .ensures) (c .before .before .before .if3 .left) in
     rw (c .before .part-of .ensures, c .part-of2 .ensures) (given b (now (a .tray)) (now (a .t)) (now (a .out)) table good roomy tested, rooms b (now (a .tray)) (now (a .t)) (now (a .out)) table good roomy .1)
 
-sub-t26 : tie.Need-sub-t26
-sub-t26 c =
+sub-clean : tie.Need-sub-clean
+sub-clean c =
     let r = c .before .before in
     let v = r .before .before .before .before .before in
     let o = v .before .before in
@@ -243,6 +243,6 @@ tray-run-spec =
     part-of-requires
     part-of-requires-2
     run-requires
-    sub-t26
+    sub-clean
     same-length-3
     returns-6)

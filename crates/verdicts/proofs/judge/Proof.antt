@@ -1,15 +1,14 @@
 -- `verdicts::judge` meets its contract.
 -- Assumes nothing.
-use mathlib.Core.Path.{_≡_, refl, sym, ap, _∙_}
+use mathlib.Core.Path.{_≡_, refl, ap, _∙_}
 use mathlib.Core.List.{List}
-use Prim.Native.Nat.{ℕ, _+_, _-_, _*_, _%_, _<_, _≤_}
+use Prim.Native.Nat.{ℕ, _-_, _<_, _≤_}
 use native.Mathlib.Nat.{mod-eq-of-lt, le-antisymm}
 use native.Mathlib.Numerals.{add-one}
 use native.Mathlib.Omega.{arith}
 use denote.Ref.{now}
 use Rattle.tableau.proofs.Parts.{row-in}
 use Rattle.lanes.specs.Lanes.{lane}
-use Rattle.run.specs.Frame.{verdictOf}
 use Rattle.verdicts.specs.Verdicts.{shiftedLanes, Judged, verdictIn}
 use Rattle.verdicts.proofs.Judged.{verdict-small, judged-none, judged-more}
 use borrow.Author.Needs.{needs}

@@ -1,12 +1,6 @@
 -- `verdicts::verdict_in` meets its contract.
 -- Assumes nothing.
-use mathlib.Core.Path.{_∙_, sym, ap}
-use Prim.Native.Nat.{ℕ}
-use mathlib.Core.List.{List}
-use native.Mathlib.Omega.{arith}
-use denote.Ref.{now}
 use borrow.Author.Needs.{needs}
-use Rattle.run.specs.Frame.{verdictOf}
 use Rattle.verdicts.proofs.verdict_in.Statement.{statement}
 use Rattle.verdicts.proofs.verdict_in.Tie as tie
 

@@ -9,7 +9,7 @@ use Rattle.search.specs.declared.Place.the-variants.{At, Nowhere}
 use Rattle.search.proofs.Search.{unless-cases}
 use Rattle.validity.specs.Validity.{valid}
 use Rattle.body.specs.Body.{accepted}
-use Rattle.book.specs.Book.{readBook, bodyOf}
+use Rattle.book.specs.Book.{bodyOf}
 use Rattle.book.specs.Decoded.{operationsOf, measurementsIn}
 use Rattle.book.proofs.Answers.{read-cases}
 use Rattle.tray.specs.Tray.{shotsIn, tabled, badShot}

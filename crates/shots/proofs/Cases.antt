@@ -1,0 +1,71 @@
+-- A book and trays that must be told so: antt computes each.
+-- Assumes nothing.
+use mathlib.Core.Path.{_≡_, refl}
+use mathlib.Core.List.{List, [], _∷_, _++_}
+use Prim.Native.Nat.{ℕ}
+use lib.ListN.{replicate, set}
+use Rattle.modular.specs.Dimension.{listed, inverse, powerOf}
+use Rattle.search.specs.Search.{all, firstNot}
+use Rattle.row.specs.Row.{tab, rowOf, dot, product, power, pairing}
+use Rattle.row.specs.Generators.{zWith}
+use Rattle.tableau.specs.Tableau.{part, put, eachRow}
+use Rattle.operation.specs.Gate.{gatePowers, gatePhase, gateRow}
+use Rattle.operation.specs.Error.{errorFrame}
+use Rattle.weyl.specs.Scalar.{scalar}
+use Rattle.validity.specs.Validity.{rowValid, valid}
+use Rattle.outcome.specs.Look.{pivotOf, combination, weighted, look}
+use Rattle.outcome.specs.Collapse.{collapseRow, collapse}
+use Rattle.circuit.specs.Circuit.{measured}
+use Rattle.entries.specs.Entry.{decoded, errorAt}
+use Rattle.body.specs.Body.{badOperation, measurements, goodError, badError, badChoice, readBodies}
+use Rattle.book.specs.Book.{headed, entryFits, badContents, readBook, bodyOf}
+use Rattle.book.specs.Decoded.{operationsOf, errorsOf}
+use Rattle.run.specs.Run.{onward, noted}
+use Rattle.run.specs.Frame.{strikeFrame, shiftRow, verdictOf, framedLook, framedKind, framedStrike, framedStep, framedAll, framedLeave, frameRunFrom, frameRun}
+use Rattle.tray.specs.Tray.{startOf, tabled, badShot}
+use Rattle.shots.specs.Shots.{shotRow, cleanAmong, shiftedAmong, trayRoomy, trayTold, trayBook}
+
+-- d 3, n 1; a measurement, Fourier and a measurement, with the choices 1 and 2; at place 2 an X error, which no shot has
+abbrev book : List ℕ
+book =
+    81 ∷ 3 ∷ 1 ∷ 3 ∷ 1 ∷ 0 ∷ 22 ∷ 0 ∷ 12 ∷ 0 ∷ 2 ∷ 0 ∷ 34 ∷ 0 ∷ 5 ∷ 0 ∷ 3 ∷ 0 ∷ 39 ∷ 0 ∷ 2 ∷ 0
+    ∷ 6 ∷ 0 ∷ 0 ∷ 0 ∷ 0 ∷ 0 ∷ 0 ∷ 0 ∷ 6 ∷ 0 ∷ 0 ∷ 0 ∷ 2 ∷ 0 ∷ 0 ∷ 1 ∷ 0 ∷ 1 ∷ 2 ∷ []
+
+-- three shots: no error; at place 2 an X error of power 1; one of power 2
+abbrev tray : List ℕ
+tray = 3 ∷ 0 ∷ 0 ∷ 0 ∷ 5 ∷ 0 ∷ 5 ∷ 0 ∷ 2 ∷ 0 ∷ 0 ∷ 1 ∷ 0 ∷ 2 ∷ 0 ∷ 0 ∷ 2 ∷ 0 ∷ []
+
+-- the zero tableau
+abbrev t : List ℕ
+t = 1 ∷ 0 ∷ 0 ∷ 0 ∷ 1 ∷ 0 ∷ []
+
+abbrev sevens : ℕ → List ℕ
+sevens k = replicate k 7
+
+-- the first outcome is 0 and certain, the second 2 and free, shifted by 1 and by 2; one byte more is lent, and kept
+pub told :
+    (trayBook book tray t (sevens 16)
+    ≡ record {
+      number = 0;
+      place = 1;
+      shifted = 2;
+      out = 0 ∷ 0 ∷ 0 ∷ 2 ∷ 1 ∷ 1 ∷ 0 ∷ 0 ∷ 0 ∷ 1 ∷ 1 ∷ 0 ∷ 0 ∷ 1 ∷ 1 ∷ 7 ∷ [];
+    })
+    × (trayBook book (0 ∷ 0 ∷ []) t (sevens 1) ≡ record { number = 0; place = 0; shifted = 0; out = 7 ∷ [] })
+unfolding listed inverse powerOf all firstNot tab rowOf dot product power pairing zWith scalar part put eachRow gatePowers gatePhase gateRow errorFrame rowValid valid pivotOf combination weighted look collapseRow collapse measured decoded errorAt badOperation measurements goodError badError badChoice readBodies headed entryFits badContents readBook bodyOf operationsOf errorsOf onward noted strikeFrame shiftRow verdictOf framedLook framedKind framedStrike framedStep framedAll framedLeave frameRunFrom frameRun startOf tabled badShot shotRow cleanAmong shiftedAmong trayRoomy trayTold trayBook
+told = (refl, refl)
+
+-- a tray that is refused leaves a buffer of so many sevens
+abbrev Refuses : (tray t : List ℕ) (size number place : ℕ) → Type 0
+Refuses tray t size number place =
+    trayBook book tray t (sevens size) ≡ record { number = number; place = place; shifted = 0; out = sevens size }
+
+-- p of the last shot's error is 3, which is not below d
+abbrev bad : List ℕ
+bad = set tray 16 3
+
+-- 11 before 6, 6 before 8, 8 before 9; 6 names the shot
+pub refusals :
+    Refuses (bad ++ (0 ∷ [])) t 15 11 0 × Refuses bad [] 14 6 2 × Refuses tray (set t 0 2) 14 8 0 × Refuses tray (set t 0 2) 15 9 0
+unfolding listed all firstNot tab dot pairing part eachRow rowValid valid measured decoded errorAt badOperation measurements goodError badError badChoice readBodies headed entryFits badContents readBook bodyOf operationsOf startOf tabled badShot trayRoomy trayTold trayBook
+refusals = (refl, refl, refl, refl)
