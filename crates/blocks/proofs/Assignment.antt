@@ -17,7 +17,8 @@ use Rattle.row.specs.Row.{tab}
 use Rattle.tableau.specs.Tableau.{part}
 use Rattle.circuit.specs.Circuit.{Strikes}
 use Rattle.book.specs.Decoded.{errorsOf}
-use Rattle.tray.specs.Tray.{shotsIn, lengthAt, startOf, noisyAmong}
+use Rattle.tray.specs.Tray.{shotsIn, lengthAt, startOf}
+use Rattle.expand.specs.Expand.{noisyAmong}
 use Rattle.calendar.specs.Passing.{laneErrors, Block}
 use Rattle.lane_shots.specs.LaneShots.{blank}
 use Rattle.lane_shots.proofs.Starting.{blank-length, zeros}

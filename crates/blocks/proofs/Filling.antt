@@ -9,7 +9,7 @@ use native.Mathlib.Omega.{arith}
 use lib.ListN.{length, getD}
 use lib.Seq.{ext-getD}
 use Rattle.tableau.specs.Tableau.{part, put}
-use Rattle.tableau.proofs.Parts.{row-in, part-length, part-at, put-length}
+use Rattle.tableau.proofs.Parts.{row-in, part-length, part-at, put-length, put-left, put-in, put-right}
 use Rattle.operation.specs.declared.Operation.{Operation}
 use Rattle.operation.specs.declared.WeylError.{WeylError}
 use Rattle.run.specs.Direct.{State}
@@ -17,7 +17,6 @@ use Rattle.run.specs.Frame.{noFrame}
 use Rattle.run.specs.Raised.{finalFrame}
 use Rattle.tile.specs.Tile.{shotAt}
 use Rattle.verdicts.proofs.Judged.{verdict-small}
-use Rattle.expand.proofs.Bytes.{put-left, put-in, put-right}
 use Rattle.lane_shots.specs.LaneShots.{bytesBy, shiftedBy, ShotRows}
 use Rattle.blocks.specs.Blocks.{Filled}
 

@@ -14,7 +14,7 @@ use Rattle.operation.specs.declared.Operation.{Operation}
 use Rattle.operation.specs.declared.WeylError.{WeylError}
 use Rattle.operation.specs.Operation.{allowed}
 use Rattle.circuit.specs.Circuit.{opAt, measured}
-use Rattle.tray.specs.Tray.{lengthAt, startOf, noisyAmong}
+use Rattle.tray.specs.Tray.{lengthAt, startOf}
 use Rattle.run.specs.Direct.{State}
 use Rattle.run.specs.Frame.{noFrame, verdictOf}
 use Rattle.run.specs.Raised.{finalFrame}
@@ -23,7 +23,7 @@ use Rattle.calendar.specs.Passing.{laneErrors}
 use Rattle.shots.specs.Clean.{cleanPlus}
 use Rattle.shots.proofs.NoErrors.{clean-alone}
 use Rattle.lane_shots.specs.LaneShots.{bytesBy, verdictBy, shiftedBy, ShotRows}
-use Rattle.expand.specs.Expand.{rowOf, Expanded}
+use Rattle.expand.specs.Expand.{noisyAmong, rowOf, Expanded}
 use Rattle.expand.proofs.Noisy.{noisy-none, noisy-one, noisy-less}
 use Rattle.blocks.specs.Blocks.{shotErrors, Assigned}
 use Rattle.blocks.proofs.Assignment.{no-bytes, lane-errors}

@@ -8,7 +8,8 @@ use Rattle.operation.specs.declared.Operation.{Operation}
 use Rattle.operation.specs.declared.WeylError.{WeylError}
 use Rattle.circuit.specs.Circuit.{Strikes}
 use Rattle.book.specs.Decoded.{errorsOf}
-use Rattle.tray.specs.Tray.{shotsIn, lengthAt, startOf, shotBody, noisyAmong}
+use Rattle.tray.specs.Tray.{shotsIn, lengthAt, startOf, shotBody}
+use Rattle.expand.specs.Expand.{noisyAmong}
 use Rattle.run.specs.Direct.{State}
 use Rattle.tile.specs.Tile.{shotAt}
 use Rattle.lane_shots.specs.LaneShots.{bytesBy}

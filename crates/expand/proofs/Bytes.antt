@@ -1,44 +1,14 @@
--- Bytes put into a list, and bytes moved in one.
+-- Bytes moved in a list.
 -- Assumes nothing.
 use mathlib.Core.Path.{_≡_, refl, sym, ap, _∙_}
-use mathlib.Core.List.{List, _++_}
+use mathlib.Core.List.{List}
 use Prim.Native.Nat.{ℕ, _+_, _-_, _<_, _≤_}
 use native.Mathlib.Decide.{ℕ-discrete, decLt}
 use native.Mathlib.Omega.{arith}
-use lib.ListN.{length, getD, set, take, drop, length-set, List·getD-append}
-use lib.Seq.{ext-getD, getD-append-add, getD-take, getD-drop, getD-set-same, getD-set-other, length-take-le}
+use lib.ListN.{length, getD, set, length-set}
+use lib.Seq.{ext-getD, getD-set-same, getD-set-other}
 use Rattle.tableau.specs.Tableau.{part, put}
-use Rattle.tableau.proofs.Parts.{part-length, part-at, put-length}
-
--- the bytes of a list with ys put into it
-module _ (s w : ℕ) (ys t : List ℕ) (room : s + w ≤ length t) (e : length ys ≡ w) where
-  head-length : length (take s t) ≡ s
-  head-length = length-take-le s t (omega arith)
-
-  pub put-left : (b : ℕ) → b < s → getD (put s w ys t) b 0 ≡ getD t b 0
-  unfolding put
-  put-left b l = List·getD-append (take s t) (ys ++ drop w (drop s t)) 0 b (omega (arith, head-length)) ∙ getD-take s t b 0 l
-
-  behind : (b : ℕ) → getD (put s w ys t) (s + b) 0 ≡ getD (ys ++ drop w (drop s t)) b 0
-  unfolding put
-  behind b =
-      let q : s + b ≡ length (take s t) + b = omega (arith, head-length) in
-      ap (λ (x : ℕ). getD (take s t ++ (ys ++ drop w (drop s t))) x 0) q ∙ getD-append-add (take s t) (ys ++ drop w (drop s t)) b 0
-
-  pub put-in : (b : ℕ) → b < w → getD (put s w ys t) (s + b) 0 ≡ getD ys b 0
-  put-in b l = behind b ∙ List·getD-append ys (drop w (drop s t)) 0 b (omega (arith, e))
-
-  pub put-right : (b : ℕ) → s + w ≤ b → getD (put s w ys t) b 0 ≡ getD t b 0
-  put-right b l =
-      let q : b ≡ s + (w + (b - (s + w))) = omega arith in
-      let p : w + (b - (s + w)) ≡ length ys + (b - (s + w)) = omega (arith, e) in
-      ap (λ (x : ℕ). getD (put s w ys t) x 0) q
-      ∙ behind (w + (b - (s + w)))
-      ∙ ap (λ (x : ℕ). getD (ys ++ drop w (drop s t)) x 0) p
-      ∙ getD-append-add ys (drop w (drop s t)) (b - (s + w)) 0
-      ∙ getD-drop w (drop s t) (b - (s + w)) 0
-      ∙ getD-drop s t (w + (b - (s + w))) 0
-      ∙ ap (λ (x : ℕ). getD t x 0) (sym q)
+use Rattle.tableau.proofs.Parts.{part-length, part-at, put-length, put-left, put-in, put-right}
 
 -- j bytes are moved, and every other byte is as it was
 pub record Moving (from to j : ℕ) (t u : List ℕ) : Type 0 where

@@ -7,7 +7,8 @@ use Prim.Native.Nat.{ℕ, zero, suc, _+_, _-_, _<_, _≤_}
 use native.Mathlib.Decide.{ℕ-discrete}
 use native.Mathlib.Omega.{arith}
 use borrow.Author.Tests.{eq-eqb, ne-eqb}
-use Rattle.tray.specs.Tray.{lengthAt, noisyAmong}
+use Rattle.tray.specs.Tray.{lengthAt}
+use Rattle.expand.specs.Expand.{noisyAmong}
 
 module _ (tray : List ℕ) (first : ℕ) where
   -- one shot more

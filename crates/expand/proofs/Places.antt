@@ -10,9 +10,9 @@ use lib.ListN.{length}
 use borrow.Author.Tests.{eq-eqb, ne-eqb}
 use Rattle.tableau.specs.Tableau.{put}
 use Rattle.tableau.proofs.Parts.{row-in, part-length, put-length, part-put, part-before, part-after}
-use Rattle.tray.specs.Tray.{lengthAt, noisyAmong}
+use Rattle.tray.specs.Tray.{lengthAt}
 use Rattle.tile.specs.Tile.{shotAt}
-use Rattle.expand.specs.Expand.{rowOf, Expanded, Expanding}
+use Rattle.expand.specs.Expand.{noisyAmong, rowOf, Expanded, Expanding}
 use Rattle.expand.proofs.Noisy.{noisy-one, noisy-all, noisy-each}
 
 module _ (tray : List ℕ) (first : ℕ) (clean : List ℕ) (w : ℕ) where

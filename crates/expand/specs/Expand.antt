@@ -2,11 +2,16 @@
 use mathlib.Core.Path.{_≡_}
 use mathlib.Core.Bool.{cond}
 use mathlib.Core.List.{List, _∷_}
-use Prim.Native.Nat.{ℕ, _+_, _<_, _≤_}
+use Prim.Native.Nat.{ℕ, zero, suc, _+_, _<_, _≤_}
 use lib.Dec.{eqb}
 use lib.ListN.{length}
-use Rattle.tray.specs.Tray.{lengthAt, noisyAmong}
+use Rattle.tray.specs.Tray.{lengthAt}
 use Rattle.tile.specs.Tile.{shotAt}
+
+-- how many of k shots, the first of them shot `first`, have errors
+unfoldable pub noisyAmong : List ℕ → ℕ → ℕ → ℕ
+noisyAmong s first zero = 0
+noisyAmong s first (suc k) = noisyAmong s first k + cond (eqb (lengthAt s (first + k)) 0) 0 1
 
 -- The row of shot first + i: the clean run's bytes if it has no errors, else the next of the rows that were filled.
 abbrev pub rowOf : List ℕ → ℕ → List ℕ → ℕ → List ℕ → ℕ → List ℕ

@@ -5,8 +5,8 @@ ghost use mathlib.Core.List.{_∷_};
 ghost use Prim.Native.Nat.{_+_, _*_, _<_, _≤_};
 ghost use lib.ListN.{length};
 ghost use Rattle.tableau.specs.Tableau.{part, put};
-ghost use Rattle.tray.specs.Tray.{shotsIn, noisyAmong};
-ghost use Rattle.expand.specs.Expand.{rowOf, Expanded};
+ghost use Rattle.tray.specs.Tray.{shotsIn};
+ghost use Rattle.expand.specs.Expand.{noisyAmong, rowOf, Expanded};
 use entries::word;
 
 // The row becomes that of a shot without errors: clean, and the clean results.

@@ -1,17 +1,23 @@
 -- Rows of a tableau: what is put is there, the rest stays, and equal rows with equal rests are equal tableaus.
 -- Assumes nothing.
 use mathlib.Core.Path.{_≡_, refl, sym, ap, ap₂, _∙_}
-use mathlib.Core.List.{List, _++_}
+use mathlib.Core.List.{List, _∷_, _++_}
 use mathlib.Core.Logic.{_≢_, ⊎-elim}
 use Prim.Native.Nat.{ℕ, zero, suc, _+_, _-_, _*_, _/_, _%_, _≤_, _<_}
 use native.Mathlib.Nat.{eq-or-lt-of-le, le-of-suc-le-suc, not-suc-le-zero, suc-mul, mul-le-mul-right, le-of-lt, le-refl, le-antisymm, mod-lt, div-add-mod', div-lt-iff-lt-mul}
 use native.Mathlib.Decide.{decLt, ℕ-discrete}
 use native.Mathlib.Numerals.{add-one}
 use native.Mathlib.Omega.{arith}
-use lib.ListN.{length, getD, take, drop, length-drop, length-append, take-append-drop}
-use lib.Seq.{length-take-le, take-at, drop-at, take-add, take-take, drop-drop, drop-append-le, take-append-le, getD-take, getD-drop}
+use lib.ListN.{length, getD, take, drop, length-drop, length-append, take-append-drop, replicate, List·getD-append}
+use lib.Seq.{length-take-le, take-at, drop-at, take-add, take-take, drop-drop, drop-append-le, take-append-le, getD-take, getD-drop, getD-append-add}
 use Rattle.row.specs.Row.{Row}
 use Rattle.tableau.specs.Tableau.{Tableau, part, put, eachRow, row, onRows}
+
+-- room that is cut to the bytes needed
+pub take-replicate : {A : Type 0} (a : A) (k m : ℕ) → k ≤ m → take k (replicate m a) ≡ replicate k a
+take-replicate a zero m h = refl
+take-replicate a (suc k) zero h = absurd (omega arith)
+take-replicate a (suc k) (suc m) h = ap (_∷_ a) (take-replicate a k m (le-of-suc-le-suc h))
 
 -- row i ends before row m begins
 pub row-in : (i m w : ℕ) → i < m → i * w + w ≤ m * w
@@ -69,6 +75,36 @@ part-after s w a ys t h g e =
     ∙ ap (drop (s - (a + w))) (drop-put a w ys t g e)
     ∙ drop-drop (s - (a + w)) (a + w) t
     ∙ ap (λ (x : ℕ). drop x t) (sym k))
+
+-- the bytes of a list with ys put into it
+module _ (s w : ℕ) (ys t : List ℕ) (room : s + w ≤ length t) (e : length ys ≡ w) where
+  head-length : length (take s t) ≡ s
+  head-length = length-take-le s t (omega arith)
+
+  pub put-left : (b : ℕ) → b < s → getD (put s w ys t) b 0 ≡ getD t b 0
+  unfolding put
+  put-left b l = List·getD-append (take s t) (ys ++ drop w (drop s t)) 0 b (omega (arith, head-length)) ∙ getD-take s t b 0 l
+
+  behind : (b : ℕ) → getD (put s w ys t) (s + b) 0 ≡ getD (ys ++ drop w (drop s t)) b 0
+  unfolding put
+  behind b =
+      let q : s + b ≡ length (take s t) + b = omega (arith, head-length) in
+      ap (λ (x : ℕ). getD (take s t ++ (ys ++ drop w (drop s t))) x 0) q ∙ getD-append-add (take s t) (ys ++ drop w (drop s t)) b 0
+
+  pub put-in : (b : ℕ) → b < w → getD (put s w ys t) (s + b) 0 ≡ getD ys b 0
+  put-in b l = behind b ∙ List·getD-append ys (drop w (drop s t)) 0 b (omega (arith, e))
+
+  pub put-right : (b : ℕ) → s + w ≤ b → getD (put s w ys t) b 0 ≡ getD t b 0
+  put-right b l =
+      let q : b ≡ s + (w + (b - (s + w))) = omega arith in
+      let p : w + (b - (s + w)) ≡ length ys + (b - (s + w)) = omega (arith, e) in
+      ap (λ (x : ℕ). getD (put s w ys t) x 0) q
+      ∙ behind (w + (b - (s + w)))
+      ∙ ap (λ (x : ℕ). getD (ys ++ drop w (drop s t)) x 0) p
+      ∙ getD-append-add ys (drop w (drop s t)) (b - (s + w)) 0
+      ∙ getD-drop w (drop s t) (b - (s + w)) 0
+      ∙ getD-drop s t (w + (b - (s + w))) 0
+      ∙ ap (λ (x : ℕ). getD t x 0) (sym q)
 
 -- f i of a row is as long as the row
 pub record Keeps (w : ℕ) (f : ℕ → List ℕ → List ℕ) : Type 0 where

@@ -1,7 +1,7 @@
 -- A tray of shots: a table of contents first, a two-byte count and then a two-byte length per shot, all low byte first, followed by
 -- the error bodies in order. The statement is proved in proofs/.
 use mathlib.Core.Path.{_≡_}
-use mathlib.Core.Bool.{Bool, true, false, cond, _&&_}
+use mathlib.Core.Bool.{Bool, true, false, _&&_}
 use mathlib.Core.List.{List}
 use Prim.Native.Nat.{ℕ, zero, suc, _+_, _*_, _<_}
 use lib.Dec.{eqb, leb}
@@ -52,8 +52,3 @@ goodShot d n count s i = none (badError d n count (shotBody s i))
 
 unfoldable pub badShot : ℕ → ℕ → ℕ → List ℕ → Place
 badShot d n count s = firstNot (goodShot d n count s) (shotsIn s)
-
--- how many of k shots, the first of them shot `first`, have errors
-unfoldable pub noisyAmong : List ℕ → ℕ → ℕ → ℕ
-noisyAmong s first zero = 0
-noisyAmong s first (suc k) = noisyAmong s first k + cond (eqb (lengthAt s (first + k)) 0) 0 1

@@ -9,7 +9,8 @@ use Prim.Native.Nat.{ℕ, zero, suc, _-_, _+_, _≤_, _<_}
 use denote.Ref.{now}
 use lib.Dec.{ltb}
 use lib.ListN.{length}
-use Rattle.tray.specs.Tray.{shotsIn, startOf, noisyAmong}
+use Rattle.tray.specs.Tray.{shotsIn, startOf}
+use Rattle.expand.specs.Expand.{noisyAmong}
 use Rattle.lane_shots.proofs.Starting.{blank-length}
 use Rattle.blocks.specs.Blocks.{Assigned}
 use Rattle.blocks.proofs.Assignment.{taken-both, left-neither, noisy-counted, assigned-none, assigned-more}

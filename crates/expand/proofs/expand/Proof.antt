@@ -8,8 +8,7 @@ use lib.ListN.{length}
 use denote.Ref.{now}
 use Rattle.tableau.specs.Tableau.{put}
 use Rattle.tableau.proofs.Parts.{row-in}
-use Rattle.tray.specs.Tray.{noisyAmong}
-use Rattle.expand.specs.Expand.{rowOf, Expanding}
+use Rattle.expand.specs.Expand.{noisyAmong, rowOf, Expanding}
 use Rattle.expand.proofs.Places.{expanding-none, expanding-more, expanding-all}
 use Rattle.expand.proofs.expand.Statement.{statement}
 use Rattle.expand.proofs.expand.Tie as tie

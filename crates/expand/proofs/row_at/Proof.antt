@@ -13,8 +13,8 @@ use mir.Facts.{fits-le}
 use denote.Ref.{now}
 use Rattle.tableau.specs.Tableau.{part, put}
 use Rattle.tableau.proofs.Parts.{row-in}
-use Rattle.tray.specs.Tray.{lengthAt, noisyAmong}
-use Rattle.expand.specs.Expand.{rowOf}
+use Rattle.tray.specs.Tray.{lengthAt}
+use Rattle.expand.specs.Expand.{noisyAmong, rowOf}
 use Rattle.expand.proofs.Noisy.{noisy-none, noisy-one}
 use Rattle.expand.proofs.Places.{row-clean, row-noisy}
 use borrow.Author.Needs.{needs}

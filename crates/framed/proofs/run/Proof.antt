@@ -1,20 +1,14 @@
 -- `framed::run` meets its contract.
 -- Assumes nothing.
-use mathlib.Core.Path.{_≡_, refl, sym, ap}
-use mathlib.Core.List.{_∷_}
-use Prim.Native.Nat.{ℕ, zero, suc, _*_, _≤_}
-use native.Mathlib.Nat.{le-of-suc-le-suc}
+use mathlib.Core.Path.{sym}
+use Prim.Native.Nat.{_*_}
 use native.Mathlib.Omega.{arith}
-use lib.ListN.{take, replicate}
+use lib.ListN.{replicate}
 use lib.Seq.{length-take-le}
 use borrow.Author.Needs.{needs}
+use Rattle.tableau.proofs.Parts.{take-replicate}
 use Rattle.framed.proofs.run.Statement.{statement}
 use Rattle.framed.proofs.run.Tie as tie
-
-take-replicate : {A : Type 0} (a : A) (k m : ℕ) → k ≤ m → take k (replicate m a) ≡ replicate k a
-take-replicate a zero m h = refl
-take-replicate a (suc k) zero h = absurd (omega arith)
-take-replicate a (suc k) (suc m) h = ap (_∷_ a) (take-replicate a k m (le-of-suc-le-suc h))
 
 mul-powers : tie.Need-mul-powers
 mul-powers c = search needs

@@ -2,24 +2,18 @@
 -- Assumes nothing.
 use native.Mathlib.Omega.{arith}
 use borrow.Author.Needs.{needs}
-use mathlib.Core.Path.{_≡_, refl, sym, ap}
-use mathlib.Core.List.{_∷_}
-use Prim.Native.Nat.{ℕ, zero, suc, _+_, _*_, _≤_}
-use native.Mathlib.Nat.{le-of-suc-le-suc}
+use mathlib.Core.Path.{sym}
+use Prim.Native.Nat.{_+_, _*_}
 use denote.Ref.{now}
-use lib.ListN.{length, take, replicate}
+use lib.ListN.{length}
 use lib.Seq.{length-take-le}
+use Rattle.tableau.proofs.Parts.{take-replicate}
 use Rattle.tableau.proofs.Sized.{sized-bytes}
 use Rattle.lane_shots.specs.LaneShots.{blank}
 use Rattle.lane_shots.proofs.Starting.{blank-length}
 use Rattle.shots_run.proofs.Separate.{told-by}
 use Rattle.shots_run.proofs.run.Statement.{statement}
 use Rattle.shots_run.proofs.run.Tie as tie
-
-take-replicate : {A : Type 0} (a : A) (k m : ℕ) → k ≤ m → take k (replicate m a) ≡ replicate k a
-take-replicate a zero m h = refl
-take-replicate a (suc k) zero h = absurd (omega arith)
-take-replicate a (suc k) (suc m) h = ap (_∷_ a) (take-replicate a k m (le-of-suc-le-suc h))
 
 mul-size : tie.Need-mul-size
 mul-size c = search needs
