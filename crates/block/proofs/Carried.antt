@@ -19,7 +19,7 @@ use Rattle.block.specs.Carried.{CarriedTo, CarriedAll}
 
 module _ (d n : ℕ) (ops : List Operation) (errors : List WeylError) where
   -- a measurement does nothing to a frame, as a gate
-  pub carry-by : (k : ℕ) (F : List ℕ) (op : Operation) → opAt ops k ≡ op → carryBy d n ops errors k (kind op) F ≡ gateFrame d n op F
+  carry-by : (k : ℕ) (F : List ℕ) (op : Operation) → opAt ops k ≡ op → carryBy d n ops errors k (kind op) F ≡ gateFrame d n op F
   unfolding carryBy gatePowers
   carry-by k F (Fourier q) e = rw e
   carry-by k F (PhaseGate q) e = rw e
@@ -29,7 +29,7 @@ module _ (d n : ℕ) (ops : List Operation) (errors : List WeylError) where
   carry-by k F (Multiplier q u) e = rw e
   carry-by k F (Measure q) e = refl
 
-  pub carried-more : (k : ℕ) (F : List ℕ) (op : Operation) → opAt ops k ≡ op
+  carried-more : (k : ℕ) (F : List ℕ) (op : Operation) → opAt ops k ≡ op
       → carried d n ops errors 0 F (k + 1) ≡ gateFrame d n op (strikeFrame d n errors k (carried d n ops errors 0 F k) (length errors))
   unfolding carried struckFrame
   carried-more k F op e =

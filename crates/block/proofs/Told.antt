@@ -161,7 +161,7 @@ next-step {d} {n} {ops} {k = k} {u = u} z a b h e ey small t (noted q tile' g lo
     still : (op : Operation) → kind op ≡ measures q → (F : List ℕ) → gateFrame d n op F ≡ F
     still op e F = measure-still d n q op e F
 
-pub all-told : {d n : ℕ} {ops : List Operation} {errors : ℕ → List WeylError} {clean : List ℕ} {w used j : ℕ} {tile marks out out' : List ℕ}
+all-told : {d n : ℕ} {ops : List Operation} {errors : ℕ → List WeylError} {clean : List ℕ} {w used j : ℕ} {tile marks out out' : List ℕ}
     → length out' ≡ length out → j ≡ measured ops (length ops) → Told d n ops errors clean w used j j tile marks out'
     → AllTold d n ops errors clean w used out out'
 all-told e q t =

@@ -43,7 +43,7 @@ module _ (tray : List ℕ) (first : ℕ) where
       → (noisyAmong tray first j ≤ noisyAmong tray first k) × (noisyAmong tray first k ≤ noisyAmong tray first j + (k - j))
   noisy-between j k h = let q : k - j + j ≡ k = omega arith in rw q at (noisy-later j (k - j))
 
-  pub noisy-rises : (j k : ℕ) → j ≤ k → noisyAmong tray first j ≤ noisyAmong tray first k
+  noisy-rises : (j k : ℕ) → j ≤ k → noisyAmong tray first j ≤ noisyAmong tray first k
   noisy-rises j k h = noisy-between j k h .0
 
   -- a shot with errors is one of those

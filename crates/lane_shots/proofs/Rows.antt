@@ -55,7 +55,7 @@ module _ (d n : ℕ) (ops : List Operation) (clean : State) (errors : ℕ → Li
           rw (ne-eqb (b % 2) 0 e)
           (ap (λ (x : ℕ). getD shot x 0) p ∙ h .marks-too l (b / 2) low (omega (arith, div-add-mod b 2)) ∙ ap (λ (x : ℕ). getD (clean .results) x 0) (sym q))
 
-  pub row-is : getD shot 0 0 ≡ verdictOf d n (finalFrame d n ops (errors l) (noFrame n)) (clean .rows) → shot ≡ cleanPlus d n ops clean (errors l)
+  row-is : getD shot 0 0 ≡ verdictOf d n (finalFrame d n ops (errors l) (noFrame n)) (clean .rows) → shot ≡ cleanPlus d n ops clean (errors l)
   unfolding cleanPlus
   row-is e =
       let len : length shot ≡ 1 + 2 * total = part-length (l * (1 + 2 * total)) (1 + 2 * total) out' room in

@@ -70,7 +70,7 @@ module _ (d n : ℕ) (low : 0 < d) (ops : List Operation) (choices : List ℕ) (
   low-onward A a zero l = a
   low-onward A a (suc m) l = let q : 0 + m ≡ m = omega arith in rw q (low-step m l _ (low-onward A a m (omega arith)))
 
-  pub low-run : (A : State) → 2 * total ≤ length (A .results)
+  low-run : (A : State) → 2 * total ≤ length (A .results)
       → Told (Low d) total total (directRun d n ops [] choices A .results) (directRun d n ops [] choices A .results)
   unfolding directRun directStrike
   low-run A room = low-onward A (told-none (Low d) total room room) (length ops) (le-refl (length ops))
@@ -102,7 +102,7 @@ module _ (n : ℕ) (t : List ℕ) (room : 2 * n * (2 * n + 1) ≤ length t) wher
   abbrev copied : List ℕ
   copied = part 0 (2 * n * (2 * n + 1)) t
 
-  pub copied-length : length copied ≡ 2 * n * (2 * n + 1)
+  copied-length : length copied ≡ 2 * n * (2 * n + 1)
   copied-length = part-length 0 (2 * n * (2 * n + 1)) t (omega arith)
 
   pub window : Window n t copied
@@ -152,7 +152,7 @@ module _ {d n : ℕ} {tray t ops choices : List ℕ} (h : Ready d n tray t ops c
         ap₂ (λ (a b : List ℕ). let st : State = record { rows = a; results = b } in st) (e ∙ ap (λ (x : ℕ). take x t) size)
         (f ∙ ap (λ (x : ℕ). blank (2 * x)) (h .circuit .one-each))
 
-    pub is-clean : _≡_ {A = State} (record { rows = copy'; results = results' }) clean
+    is-clean : _≡_ {A = State} (record { rows = copy'; results = results' }) clean
     unfolding errorsOf tab
     is-clean =
         ap (λ (x : Left). let st : State = record { rows = x .tableau; results = x .results } in st) g

@@ -49,12 +49,12 @@ module _ {d n : ℕ} {tray t ops choices : List ℕ} (h : Ready d n tray t ops c
       twin-run d n (omega (arith, dim .low)) list [] choices (record { rows = window n t (h .tableau .room); results = told-none Equal total r r })
 
   -- a shot by the clean run on the copy is the separate frame run
-  pub shot-is : (i : ℕ) → bytesBy d n list copied (shotErrors tray) i ≡ shotBytes (runOf d n list choices t tray i)
+  shot-is : (i : ℕ) → bytesBy d n list copied (shotErrors tray) i ≡ shotBytes (runOf d n list choices t tray i)
   shot-is i =
       plus-same d n list (cleanRun d n list choices t) copied (errorsOf (shotBody tray i)) twins
       ∙ sym (clean-serves d n list choices t (errorsOf (shotBody tray i)))
 
-  pub verdict-is : (i : ℕ) → verdictBy d n list copied (shotErrors tray) i ≡ runOf d n list choices t tray i .verdict
+  verdict-is : (i : ℕ) → verdictBy d n list copied (shotErrors tray) i ≡ runOf d n list choices t tray i .verdict
   unfolding cleanPlus
   verdict-is i = ap (λ (v : List ℕ). getD v 0 0) (shot-is i)
 
@@ -67,7 +67,7 @@ module _ {d n : ℕ} {tray t ops choices : List ℕ} (h : Ready d n tray t ops c
   small-one (suc zero) l = refl
   small-one (suc (suc v)) l = absurd (omega arith)
 
-  pub shifted-is : (k : ℕ) → shiftedBy d n list copied (shotErrors tray) k ≡ shiftedAmong d n list choices t tray k
+  shifted-is : (k : ℕ) → shiftedBy d n list copied (shotErrors tray) k ≡ shiftedAmong d n list choices t tray k
   unfolding shiftedBy shiftedAmong
   shifted-is zero = refl
   shifted-is (suc k) =
@@ -75,7 +75,7 @@ module _ {d n : ℕ} {tray t ops choices : List ℕ} (h : Ready d n tray t ops c
       ap₂ _+_ (shifted-is k) (small-one _ low ∙ ap one (verdict-is k))
 
   -- the bytes
-  pub filled-is : {out out' : List ℕ} → shotsIn tray * (1 + 2 * total) ≤ length out
+  filled-is : {out out' : List ℕ} → shotsIn tray * (1 + 2 * total) ≤ length out
       → Filled d n list copied (shotErrors tray) (1 + 2 * total) 0 (shotsIn tray) out out'
       → out' ≡ filledBy d n list choices t tray out (shotsIn tray)
   filled-is {out} {out'} room f =

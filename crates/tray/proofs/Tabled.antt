@@ -7,17 +7,17 @@ use Prim.Native.Nat.{ℕ, zero, suc, _+_, _-_, _*_, _<_, _≤_}
 use native.Mathlib.Nat.{le-refl}
 use native.Mathlib.Omega.{arith}
 use lib.ListN.{length}
-use borrow.Author.Tests.{leb-true, le-leb, eqb-true, eq-eqb}
-use Rattle.search.proofs.Search.{both, all-at, all-from}
+use borrow.Author.Tests.{leb-true, eqb-true}
+use Rattle.search.proofs.Search.{both, all-at}
 use Rattle.tray.specs.Tray.{shotsIn, lengthAt, startOf, goodLength, tabled}
 
 -- bodies begin behind the table, each behind the one before it
-pub start-table : (s : List ℕ) (i : ℕ) → 2 + 2 * shotsIn s ≤ startOf s i
+start-table : (s : List ℕ) (i : ℕ) → 2 + 2 * shotsIn s ≤ startOf s i
 unfolding startOf
 start-table s zero = omega arith
 start-table s (suc i) = omega (arith, start-table s i)
 
-pub start-rises : (s : List ℕ) (i k : ℕ) → startOf s i ≤ startOf s (k + i)
+start-rises : (s : List ℕ) (i k : ℕ) → startOf s i ≤ startOf s (k + i)
 unfolding startOf
 start-rises s i zero = let q : 0 + i ≡ i = omega arith in rw q (le-refl (startOf s i))
 start-rises s i (suc k) = let q : suc k + i ≡ suc (k + i) = omega arith in rw q (omega (arith, start-rises s i k))
@@ -33,10 +33,6 @@ tabled-says s e =
     let a = both _ _ e in
     let b = both _ _ (a .1) in
     record { few = leb-true (shotsIn s) 4096 (a .0); lengths = all-at _ (shotsIn s) (b .0); ends = eqb-true _ _ (b .1) }
-
-pub tabled-from : (s : List ℕ) → Tabled s → tabled s ≡ true
-unfolding tabled
-tabled-from s h = rw (le-leb (shotsIn s) 4096 (h .few), all-from _ (shotsIn s) (h .lengths), eq-eqb _ _ (h .ends))
 
 pub untabled : (s : List ℕ) → (Tabled s → ⊥) → false ≡ tabled s
 untabled s never = by (tabled s) refl
