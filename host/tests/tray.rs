@@ -875,7 +875,7 @@ fn random_bytes_as_trays() {
     }
 }
 
-/// A true table of contents, and random bytes as bodies.
+/// A true table of contents, and small random bytes as entries: places rise, and one in eight falls.
 #[test]
 fn random_bytes_as_bodies() {
     let mut rng = Rng(80);
@@ -885,9 +885,14 @@ fn random_bytes_as_bodies() {
         let end = [2, 5, 6, 255][rng.below(4)];
         for _ in 0..rng.below(5) {
             let mut body = Vec::new();
-            for place in 0..rng.below(4) {
+            for rising in 0..rng.below(4) as u8 {
                 let [q, p, s] = [0; 3].map(|_| rng.byte_below(end));
-                body.extend([place as u8, 0, q, p, s]);
+                let place = if rng.once_in(8) {
+                    rng.byte_below(8)
+                } else {
+                    rising
+                };
+                body.extend([place, 0, q, p, s]);
             }
             tray.body(&body);
         }
@@ -962,6 +967,12 @@ fn the_view_of_bytes_that_no_run_filled() {
 #[should_panic(expected = "range")]
 fn the_view_of_a_shot_that_is_not_there() {
     Shots::new(&[0, 1, 1, 0, 1, 1], 1, 1).shot(1);
+}
+
+#[test]
+#[should_panic(expected = "range")]
+fn the_view_of_a_buffer_that_is_too_short() {
+    Shots::new(&[0, 1, 1, 0, 1], 2, 1);
 }
 
 // ---- The stack

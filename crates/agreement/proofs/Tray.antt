@@ -14,7 +14,7 @@ use Rattle.modular.proofs.Listed.{dimension}
 use Rattle.search.specs.Search.{all}
 use Rattle.search.proofs.Search.{both}
 use Rattle.tableau.specs.Tableau.{part}
-use Rattle.tableau.proofs.Parts.{part-length, part-at}
+use Rattle.tableau.proofs.Parts.{part-length, part-at, each-length, each-rest}
 use Rattle.circuit.specs.Circuit.{measured}
 use Rattle.body.specs.Body.{lengthFits, accepted}
 use Rattle.book.specs.Book.{readBook, bodyOf}
@@ -29,11 +29,11 @@ use Rattle.tray.proofs.GoodShots.{shot-good}
 use Rattle.run.specs.Frame.{Ended, verdictOf, framedLeave, frameRunFrom, frameRun}
 use Rattle.framed.specs.FrameBook.{Buffers, frameRoomy, frameEnded, frameTold, frameBook}
 use Rattle.framed.proofs.Books.{room-of}
-use Rattle.shots.specs.Shots.{runOf, cleanAmong, shiftedAmong, filledBy, TrayLeft, shotsTold, trayRoomy, trayTold, trayBook}
+use Rattle.shots.specs.Shots.{runOf, shotRow, cleanAmong, shiftedAmong, filledBy, TrayLeft, shotsTold, trayRoomy, trayTold, trayBook}
 use Rattle.shots.proofs.Same.{shot-any}
-use Rattle.shots.proofs.Rows.{shot-at, counts-are}
+use Rattle.shots.proofs.Rows.{keeps, shot-at, counts-are}
 use Rattle.shots.proofs.Refusals.{Goes, accepted-cases}
-use Rattle.agreement.specs.Tray.{shotBook, ShotRuns, ShotsAreFrameRuns, verdictsIn, TrayCounts, OwnErrorsUnused}
+use Rattle.agreement.specs.Tray.{shotBook, ShotRuns, ShotsAreFrameRuns, RestKept, TrayKeepsRest, verdictsIn, TrayCounts, OwnErrorsUnused}
 
 module _ (s tray t out : List ℕ) {d n operations errors choices : ℕ} (e : readBook s ≡ accepted d n operations errors choices) where
   means : Means s d n operations errors choices
@@ -81,6 +81,12 @@ module _ (s tray t out : List ℕ) {d n operations errors choices : ℕ} (e : re
         let q : i * w + 0 ≡ i * w = omega arith in
         ap (λ (x : ℕ). getD filled x 0) (sym q) ∙ sym (part-at (i * w) w filled 0 (omega arith))
         ∙ ap (λ (v : List ℕ). getD v 0 0) (shot-at d n (opsIn s d n) (choicesIn s) t tray out (shotsIn tray) i l (rooms .1))
+
+    rest-kept : RestKept (shotsIn tray * w) out filled
+    rest-kept =
+        let k = keeps d n (opsIn s d n) (choicesIn s) t tray in
+        let row = shotRow d n (opsIn s d n) (choicesIn s) t tray in
+        record { len = each-length row w out k (shotsIn tray) (rooms .1); rest = each-rest row w out k (shotsIn tray) (rooms .1) }
 
     -- a verdict that is not 0 is 1
     is-one : (i : ℕ) → _≡_ {A = ℕ} (cond (eqb (verdict i) 0) 0 1) (cond (eqb (verdict i) 1) 1 0)
@@ -142,6 +148,10 @@ module _ (s tray t out : List ℕ) {d n operations errors choices : ℕ} (e : re
 pub shots-are-frame-runs : ShotsAreFrameRuns
 shots-are-frame-runs s tray t out d n operations errors choices e ends i l lent same roomy =
     goes-cases s tray t out e (λ left. ShotRuns d n operations choices s tray i lent (left .out)) (λ g. shot-runs s tray t out e g i l lent same roomy) ends
+
+pub tray-keeps-rest : TrayKeepsRest
+tray-keeps-rest s tray t out d n operations errors choices e =
+    goes-cases s tray t out e (λ left. RestKept (shotsIn tray * (1 + 2 * choices)) out (left .out)) (λ g. rw (← count s tray t out e) (rest-kept s tray t out e g))
 
 pub tray-counts : TrayCounts
 tray-counts s tray t out d n operations errors choices e =

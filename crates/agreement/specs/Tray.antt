@@ -4,7 +4,7 @@ use mathlib.Core.Bool.{true, cond}
 use mathlib.Core.List.{List, _∷_}
 use Prim.Native.Nat.{ℕ, zero, suc, _+_, _*_, _/_, _<_}
 use lib.Dec.{eqb}
-use lib.ListN.{length, getD, take}
+use lib.ListN.{length, getD, take, drop}
 use Rattle.tableau.specs.Tableau.{part}
 use Rattle.body.specs.Body.{accepted}
 use Rattle.book.specs.Book.{readBook, bodyOf}
@@ -32,6 +32,16 @@ ShotsAreFrameRuns = (s tray t out : List ℕ) (d n operations errors choices : �
     → (i : ℕ) → i < shotsIn tray
     → (lent : Buffers) → lent .tableau ≡ t → frameRoomy n choices lent ≡ true
     → ShotRuns d n operations choices s tray i lent (trayBook s tray t out .out)
+
+-- The bytes past the shots are kept.
+pub record RestKept (used : ℕ) (out out' : List ℕ) : Type 0 where
+  pub len : length out' ≡ length out
+  pub rest : drop used out' ≡ drop used out
+
+abbrev pub TrayKeepsRest : Type 0
+TrayKeepsRest = (s tray t out : List ℕ) (d n operations errors choices : ℕ) → readBook s ≡ accepted d n operations errors choices
+    → trayBook s tray t out .number ≡ 0
+    → RestKept (shotsIn tray * (1 + 2 * choices)) out (trayBook s tray t out .out)
 
 -- how many of the first k shots, of w bytes each, have this verdict byte
 unfoldable pub verdictsIn : (verdict w : ℕ) → List ℕ → ℕ → ℕ

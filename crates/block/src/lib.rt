@@ -13,8 +13,8 @@ ghost use mathlib.Core.List.{List};
 ghost use Rattle.operation.specs.declared.Operation.{Operation};
 ghost use Rattle.operation.specs.declared.WeylError.{WeylError};
 
-// Operation k on each lane; a measurement's results go to row y of the tile. The number of measurements
-// after it is returned.
+// Operation k on each lane; a measurement's results go to row y of the tile. How many
+// measurements there are up to it, itself among them, is returned.
 fn perform(
     v: &mut [u8],
     tile: &mut [u8],

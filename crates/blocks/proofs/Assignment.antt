@@ -23,7 +23,7 @@ use Rattle.calendar.specs.Passing.{laneErrors, Block}
 use Rattle.lane_shots.specs.LaneShots.{blank}
 use Rattle.lane_shots.proofs.Starting.{blank-length, zeros}
 use Rattle.expand.proofs.Noisy.{noisy-none, noisy-one, noisy-less}
-use Rattle.blocks.specs.Blocks.{shotErrors, OfShot, Empty, Assigned, Loaded}
+use Rattle.blocks.specs.Blocks.{shotErrors, OfShot, NoBody, Assigned, Loaded}
 
 -- the loop's test
 pub taken-both : (a b c e : ℕ) → ltb a b && ltb c e ≡ true → (a < b) × (c < e)
@@ -72,7 +72,7 @@ module _ (tray : List ℕ) (first : ℕ) where
     abbrev Shot : ℕ → Type 0
     Shot l =
         OfShot tray (getD (set starts noisy start) l 0) (getD (set sizes noisy size) l 0)
-        ⊎ Empty (getD (set starts noisy start) l 0) (getD (set sizes noisy size) l 0)
+        ⊎ NoBody (getD (set starts noisy start) l 0) (getD (set sizes noisy size) l 0)
 
     shot : (l : ℕ) → l < 256 → Dec (l ≡ noisy) → Shot l
     shot l m (yes e) =
@@ -104,11 +104,11 @@ module _ {tray : List ℕ} {first count : ℕ} {starts sizes : List ℕ} (h : As
   lane-errors i l z = rw (h .lane-of i l z .0, h .lane-of i l z .1)
 
   module _ (d n : ℕ) (loaded : Loaded d n tray) where
-    inside : (start size : ℕ) → OfShot tray start size ⊎ Empty start size → start + size ≤ length tray
+    inside : (start size : ℕ) → OfShot tray start size ⊎ NoBody start size → start + size ≤ length tray
     inside start size (inl a) = rw (a .begins, a .long) (loaded .lies .inside (a .shot) (a .inside))
     inside start size (inr a) = omega (arith, a .begins, a .long)
 
-    strikes : (start size : ℕ) → OfShot tray start size ⊎ Empty start size → Strikes d n (errorsOf (part start size tray))
+    strikes : (start size : ℕ) → OfShot tray start size ⊎ NoBody start size → Strikes d n (errorsOf (part start size tray))
     strikes start size (inl a) = rw (a .begins, a .long) (loaded .strikes (a .shot) (a .inside))
     strikes start size (inr a) =
         rw (no-bytes start size tray (a .long)) (record { each = λ j z. absurd (omega arith); in-order = λ i j o z. absurd (omega arith) })

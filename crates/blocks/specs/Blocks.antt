@@ -25,7 +25,7 @@ pub record OfShot (tray : List ℕ) (start size : ℕ) : Type 0 where
   pub begins : start ≡ startOf tray shot
   pub long : size ≡ lengthAt tray shot
 
-pub record Empty (start size : ℕ) : Type 0 where
+pub record NoBody (start size : ℕ) : Type 0 where
   pub begins : start ≡ 0
   pub long : size ≡ 0
 
@@ -35,7 +35,7 @@ pub record Assigned (tray : List ℕ) (first k : ℕ) (starts sizes : List ℕ) 
   pub sizes-room : length sizes ≡ 256
   pub lane-of : (i : ℕ) → i < k → lengthAt tray (first + i) ≢ 0
       → (getD starts (noisyAmong tray first i) 0 ≡ startOf tray (first + i)) × (getD sizes (noisyAmong tray first i) 0 ≡ lengthAt tray (first + i))
-  pub shot-of : (l : ℕ) → l < 256 → OfShot tray (getD starts l 0) (getD sizes l 0) ⊎ Empty (getD starts l 0) (getD sizes l 0)
+  pub shot-of : (l : ℕ) → l < 256 → OfShot tray (getD starts l 0) (getD sizes l 0) ⊎ NoBody (getD starts l 0) (getD sizes l 0)
 
 -- table and bodies lie in the tray
 pub record Lies (tray : List ℕ) : Type 0 where

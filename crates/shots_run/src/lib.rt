@@ -32,6 +32,7 @@ fn run_in(
 {
     let size = copy.len();
     tableau::copy(copy, &t[..size]);
+    // no errors
     direct::run(copy, results, ops, &ops[..0], choices, d, n);
     blocks::fill(out, tray, ops, results, copy, 1 + 2 * choices.len(), d, n)
 }

@@ -36,7 +36,8 @@ goodLength s i = lengthFits (lengthAt s i) 5 2048
 unfoldable pub tabled : List ℕ → Bool
 tabled s = leb (shotsIn s) 4096 && (all (goodLength s) (shotsIn s) && eqb (startOf s (shotsIn s)) (length s))
 
--- No tray has two readings: of the trays of bytes whose tables are right, one alone has this number of shots and these bodies.
+-- No tray has two readings, since `shotsIn` and `shotBody` are functions of its bytes; and no two trays have the same one: of the
+-- trays of bytes whose tables are right, one alone has this number of shots and these bodies.
 abbrev pub OnlyTray : Type 0
 OnlyTray = (s u : List ℕ) → Bytes s → Bytes u → tabled s ≡ true → tabled u ≡ true → shotsIn s ≡ shotsIn u
     → ((i : ℕ) → i < shotsIn s → shotBody s i ≡ shotBody u i)

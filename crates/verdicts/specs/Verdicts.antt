@@ -12,7 +12,7 @@ unfoldable pub shiftedLanes : ℕ → ℕ → List ℕ → List ℕ → ℕ → 
 shiftedLanes d n v t zero = 0
 shiftedLanes d n v t (suc k) = shiftedLanes d n v t k + verdictOf d n (lane n v k) t
 
--- Byte 0 of shot i is f i, for each of the first k shots; every other byte of each of the `used` shots is as it was.
+-- Byte 0 of shot i is f i, for each of the first k shots; each later byte of each of the `used` shots is as it was.
 pub record Judged (w used k : ℕ) (f : ℕ → ℕ) (out out' : List ℕ) : Type 0 where
   pub len : length out' ≡ length out
   pub first : (i : ℕ) → i < k → getD (shotAt w out' i) 0 0 ≡ f i

@@ -63,7 +63,7 @@ fn verdict_in(frame: &mut [u8], v: &[u8], t: &[u8], l: usize, d: u8, m: u64, n: 
     verdict(frame, t, d, m, n)
 }
 
-pub fn verdict_of(v: &[u8], t: &[u8], l: usize, d: u8, m: u64, n: usize) -> usize
+fn verdict_of(v: &[u8], t: &[u8], l: usize, d: u8, m: u64, n: usize) -> usize
     requires { ⌜ (n ≤ 64) × (l < 256) × Lanes d n (now v) × Tableau d n (now t) × WideReciprocal d m ⌝ }
     ensures { λ r. ⌜ r ≡ verdictOf d n (lane n (now (v .entry)) l) (now (t .entry)) ⌝ }
 {

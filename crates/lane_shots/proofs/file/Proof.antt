@@ -35,7 +35,7 @@ loop-again : tie.Need-loop-again Inv-loop μ-loop
 loop-again c =
     let i = c .before .loop .inv in (
       omega arith,
-      length-set (c .before .loop .slots) (c .before .loop .l) (c .before .loop .l % 256) ∙ i .1,
+      length-set (c .before .loop .slots) (c .before .loop .l) _ ∙ i .1,
       filed-more (c .before .loop .slots) (c .before .loop .l) (c .before .loop .l % 256) (omega (arith, i .1, c .loop-test .taken)) (mod-eq-of-lt (c .loop-test .taken)) (i .2),
     )
 
