@@ -17,8 +17,8 @@ pub struct Extent {
 }
 
 // Assigns a lane to each shot that has errors, from shot `first` on, whose body begins at byte `start`, until 256 lanes are taken or
-// no shot is left. A shot without errors is written to the next lane too, and overwritten by the
-// next shot; if none follows, that lane has no errors.
+// no shot is left. A shot without errors is written to the next lane too, and overwritten by the next shot; if none follows, that
+// lane has no errors.
 fn assign(
     starts: &mut [usize],
     sizes: &mut [usize],

@@ -32,6 +32,7 @@ module _ (d n : ℕ) (ops : List Operation) (choices t : List ℕ) where
     abbrev pub runOf : ℕ → Ended
     runOf i = shotRun (errorsOf (shotBody tray i))
 
+    -- what shot i's row becomes, whatever it held
     unfoldable pub shotRow : ℕ → List ℕ → List ℕ
     shotRow i v = shotBytes (runOf i)
 
@@ -55,12 +56,15 @@ pub record TrayLeft : Type 0 where
   pub shifted : ℕ
   pub out : List ℕ
 
+-- A refusal's third number is 0, and nothing is written.
 abbrev pub turnedAway : ℕ → ℕ → List ℕ → TrayLeft
 turnedAway number place out = record { number = number; place = place; shifted = 0; out = out }
 
+-- 8: tableau or output is shorter than it must be. Needed: tableau 2n(2n+1) bytes; output, per shot, 1 and 2 per measurement.
 unfoldable pub trayRoomy : ℕ → ℕ → ℕ → List ℕ → List ℕ → Bool
 trayRoomy n measurements shots t out = leb (2 * n * (2 * n + 1)) (length t) && leb (shots * (1 + 2 * measurements)) (length out)
 
+-- Success returns 0, how many were clean and how many shifted.
 abbrev pub shotsTold : ℕ → ℕ → List Operation → List ℕ → List ℕ → List ℕ → List ℕ → TrayLeft
 shotsTold d n ops choices tray t out =
     record {
@@ -70,6 +74,7 @@ shotsTold d n ops choices tray t out =
       out = filledBy d n ops choices t tray out (shotsIn tray);
     }
 
+-- 6 with the number of the first shot that has a bad entry
 abbrev pub at6 : Place → List ℕ → TrayLeft → TrayLeft
 at6 (At shot) out rest = turnedAway 6 shot out
 at6 Nowhere out rest = rest
