@@ -14,7 +14,7 @@ use Rattle.run.specs.Frame.{noFrame}
 use Rattle.run.specs.Raised.{resultShifts}
 use Rattle.lanes.specs.Lanes.{lane, Each}
 use Rattle.tile.specs.Tile.{Noted, shotAt}
-use Rattle.lane_gate.specs.LaneGate.{AllAllowed}
+use Rattle.codes.specs.Allowed.{AllAllowed}
 
 -- Outcome i of a shot: the clean one, with its shift. Its mark is the clean one.
 abbrev pub outcomeOf : ℕ → ℕ → List Operation → List ℕ → List WeylError → ℕ → ℕ

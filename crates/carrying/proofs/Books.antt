@@ -10,22 +10,12 @@ use native.Mathlib.Omega.{arith}
 use lib.ListN.{length, getD}
 use borrow.Author.Tests.{ltb-true}
 use Rattle.operation.specs.declared.Operation.{Operation}
-use Rattle.operation.specs.declared.Operation.the-variants.{Fourier, PhaseGate, Sum, Cz, Swap, Multiplier, Measure}
 use Rattle.operation.specs.declared.WeylError.{WeylError}
 use Rattle.operation.specs.Operation.{allowed}
 use Rattle.circuit.specs.Circuit.{opAt, measures, kind, measured, Accepted}
 use Rattle.run.specs.Raised.{raised}
-use Rattle.run.proofs.Results.{measured-before}
+use Rattle.run.proofs.Results.{is-measure, measured-before}
 use Rattle.run.proofs.Shifts.{raised-length, raised-at}
-
-is-measure : (op : Operation) (q : ℕ) → kind op ≡ measures q → op ≡ Measure q
-is-measure (Fourier c) q e = cc
-is-measure (PhaseGate c) q e = cc
-is-measure (Sum c t) q e = cc
-is-measure (Cz c t) q e = cc
-is-measure (Swap c t) q e = cc
-is-measure (Multiplier c u) q e = cc
-is-measure (Measure c) q e = cc
 
 module _ {d n : ℕ} {ops : List Operation} {errors : List WeylError} {choices : List ℕ} (ac : Accepted d n ops errors choices) where
   module _ (k q : ℕ) (l : k < length ops) (e : kind (opAt ops k) ≡ measures q) where

@@ -104,4 +104,4 @@ module _ (d n : ℕ) (dim : Dimension d) where
 
     pub verdict-none : (choices : List ℕ) (st : State) (shifts frame : List ℕ) → frameRun d n ops [] choices st shifts frame .verdict ≡ 0
     unfolding frameRun
-    verdict-none choices st shifts frame = verdict-shifted ⊥ d n ops [] choices F st (λ r. absurd r) shifts frame ∙ final-clean _
+    verdict-none choices st shifts frame = verdict-shifted d n ops [] choices F st shifts frame ∙ final-clean _

@@ -2,9 +2,9 @@
 -- what the verdict says. The statements are proved in proofs/.
 use mathlib.Core.Path.{_≡_}
 use mathlib.Core.Logic.{_↔_}
-use mathlib.Core.List.{List, [], _++_}
-use Prim.Native.Nat.{ℕ, _+_, _*_, _%_, _<_, _≤_}
-use lib.ListN.{length, getD, drop}
+use mathlib.Core.List.{List, []}
+use Prim.Native.Nat.{ℕ, _+_, _*_, _<_, _≤_}
+use lib.ListN.{length, getD}
 use Rattle.modular.specs.Dimension.{Dimension}
 use Rattle.row.specs.Row.{Powers}
 use Rattle.operation.specs.declared.Operation.{Operation}
@@ -13,8 +13,9 @@ use Rattle.circuit.specs.Circuit.{measured, Accepted}
 use Rattle.validity.specs.Validity.{Valid}
 use Rattle.measurement.specs.Stabilizers.{SameSet}
 use Rattle.run.specs.Direct.{State, directStep, directRun}
-use Rattle.run.specs.Frame.{Ended, noFrame, shiftRows, verdictOf, frameRunFrom, frameRun}
-use Rattle.run.specs.Raised.{finalFrame, resultShifts, raised}
+use Rattle.run.specs.Frame.{Ended, noFrame, shiftRows, verdictOf, framedLeave, frameRunFrom, frameRun}
+use Rattle.run.specs.Raised.{raised}
+use Rattle.run.specs.Carry.{cleanCarried}
 
 -- Validity survives every operation and error: each step of the direct run keeps it (the errors of its place, then any of the
 -- seven operations), and so does the whole run.
@@ -63,20 +64,13 @@ CarriedFrom = (d n : ℕ) → Dimension d → (ops : List Operation) (errors : L
     (directRun d n ops errors (raised d n ops errors F choices) (record { rows = shiftRows d n F t; results = results }))
     (frameRunFrom d n ops errors choices F (record { rows = t; results = results }) shifts frame)
 
--- The frame run is the clean run, without errors, with the final frame added: to the rows, and to each result its shift. Its verdict
--- is that frame's on the clean run's rows.
-pub record CleanPlus (d n : ℕ) (ops : List Operation) (errors : List WeylError) (F frame : List ℕ) (clean : State) (framed : Ended) : Type 0 where
-  pub final : framed .frame ≡ finalFrame d n ops errors F ++ drop (2 * n) frame
-  pub rows : framed .rows ≡ shiftRows d n (finalFrame d n ops errors F) (clean .rows)
-  pub outcomes : (j : ℕ) → j < measured ops (length ops)
-      → getD (framed .results) (2 * j) 0 ≡ (getD (clean .results) (2 * j) 0 + getD (resultShifts d n ops errors 0 F (length ops)) j 0) % d
-  pub marks : (j : ℕ) → j < measured ops (length ops) → getD (framed .results) (2 * j + 1) 0 ≡ getD (clean .results) (2 * j + 1) 0
-  pub verdict : framed .verdict ≡ verdictOf d n (finalFrame d n ops errors F) (clean .rows)
-
+-- The frame run is the clean run, without errors, with the frame carried to the end: each result has its shift, and the final frame is
+-- added to the rows, gives the shifts and the verdict.
 abbrev pub FrameIsClean : Type 0
 FrameIsClean = (d n : ℕ) (ops : List Operation) (errors : List WeylError) (choices F : List ℕ) (st : State) (shifts frame : List ℕ)
     → 2 * measured ops (length ops) ≤ length (st .results)
-    → CleanPlus d n ops errors F frame (directRun d n ops [] choices st) (frameRunFrom d n ops errors choices F st shifts frame)
+    → frameRunFrom d n ops errors choices F st shifts frame
+    ≡ framedLeave d n ops errors choices shifts frame (cleanCarried d n ops errors F (directRun d n ops [] choices st))
 
 -- The verdict of a frame on a valid tableau is clean exactly if the rows shifted by it have the same stabilizer set.
 abbrev pub CleanRows : Type 0

@@ -1,5 +1,5 @@
--- The rows that a free measurement changes.
-use mathlib.Core.Bool.{Bool, not, cond, _||_}
+-- The rows that are multiplied by a power of the pivot.
+use mathlib.Core.Bool.{Bool, not, cond, _&&_}
 use mathlib.Core.List.{List, [], _∷_, _++_}
 use Prim.Native.Nat.{ℕ, zero, suc, _+_, _*_}
 use lib.Dec.{eqb}
@@ -10,6 +10,10 @@ unfoldable pub chosen : (ℕ → Bool) → ℕ → List ℕ
 chosen test zero = []
 chosen test (suc m) = cond (test m) (chosen test m ++ (m ∷ [])) (chosen test m)
 
--- Rows k and n + k change, and every row of t whose exponent is not 0. Entry f of the table is the exponent of a row with X power f on q.
-abbrev pub isChanging : ℕ → ℕ → ℕ → List ℕ → List ℕ → ℕ → Bool
-isChanging n q k exps t i = (eqb i k || eqb i (n + k)) || not (eqb (getD exps (getD t (i * (2 * n + 1) + q) 0) 0) 0)
+-- f done to the rows at which the test holds
+unfoldable pub onChosen : (ℕ → Bool) → (List ℕ → List ℕ) → ℕ → List ℕ → List ℕ
+onChosen test f i v = cond (test i) (f v) v
+
+-- every row of t but k and n + k that has an X power on q
+abbrev pub isChanging : ℕ → ℕ → ℕ → List ℕ → ℕ → Bool
+isChanging n q k t i = (not (eqb i k) && not (eqb i (n + k))) && not (eqb (getD t (i * (2 * n + 1) + q) 0) 0)

@@ -1,29 +1,47 @@
--- What the sweep over the rows works with.
+-- What the rows are changed with.
 use mathlib.Core.Path.{_≡_}
 use mathlib.Core.List.{List}
-use Prim.Native.Nat.{ℕ, _+_, _-_, _*_, _<_, _≤_}
-use lib.ListN.{length}
+use Prim.Native.Nat.{ℕ, _+_, _*_, _%_, _<_, _≤_}
+use lib.ListN.{length, getD}
+use Rattle.modular.specs.Modular.{neg, WideReciprocal}
 use Rattle.modular.specs.Dimension.{inverse}
-use Rattle.row.specs.Row.{Row, xOf, tab}
-use Rattle.row.specs.Fill.{multipleAt}
-use Rattle.row.specs.Even.{scaled}
-use Rattle.tableau.specs.Tableau.{row}
+use Rattle.row.specs.Row.{Row, xOf, product, power}
+use Rattle.tableau.specs.Tableau.{part, put}
+use Rattle.collapse.specs.declared.Measurement.{Measurement}
 
--- There is room for d rows, and row h of p is the pivot to the power h, for each h below the count.
-pub record Multiples (d n : ℕ) (pivot p : List ℕ) (count : ℕ) : Type 0 where
-  pub room : d * (2 * n + 1) ≤ length p
-  pub each : (h : ℕ) → h < count → row n p h ≡ scaled d n h pivot
+-- Room for d rows, 144 bytes apart, and row h is the pivot to the power h, for each h below the count.
+pub record PowersOf (d n : ℕ) (pivot p : List ℕ) (count : ℕ) : Type 0 where
+  pub room : d * 144 ≤ length p
+  pub bytes : (h s : ℕ) → h < count → s < 2 * n + 1 → getD p (h * 144 + s) 0 ≡ getD (power d n h pivot) s 0
 
--- stabilizer k, copied out, and its powers; inv is 1/e, and entry f of the table is −f/e
-pub record Setting (d n q k choice inv : ℕ) (pivot p exps : List ℕ) : Type 0 where
-  pub low : 3 ≤ d
-  pub high : d ≤ 31
-  pub size : n ≤ 64
-  pub qudit : q < n
-  pub number : k < n
-  pub below : choice < d
-  pub inverts : inv ≡ inverse d (xOf pivot q)
-  pub small : inv < d
-  pub copied : Row d n pivot
-  pub multiples : Multiples d n pivot p d
-  pub exponents : exps ≡ tab (multipleAt d (d - inv)) 32
+-- xs begins with the pivot's X powers
+pub record Widened (n : ℕ) (pivot xs : List ℕ) : Type 0 where
+  pub room : n ≤ length xs
+  pub same : (j : ℕ) → j < n → getD xs j 0 ≡ xOf pivot j
+
+-- row 1 of the powers, which is the pivot itself
+abbrev pub pivotIn : ℕ → List ℕ → List ℕ
+pivotIn n p = part 144 (2 * n + 1) p
+
+-- The measurement's numbers are in range, and p holds every power of the pivot.
+pub record Setting (c : Measurement) (p : List ℕ) : Type 0 where
+  pub size : c .n ≤ 64
+  pub qudit : c .q < c .n
+  pub number : c .k < c .n
+  pub below : c .choice < c .d
+  pub reciprocal : WideReciprocal (c .d) (c .m)
+  pub small : c .inv < c .d
+  pub inverts : c .inv ≡ inverse (c .d) (xOf (pivotIn (c .n) p) (c .q))
+  pub pivot : Row (c .d) (c .n) (pivotIn (c .n) p)
+  pub powers : PowersOf (c .d) (c .n) (pivotIn (c .n) p) p (c .d)
+
+-- v times the pivot to the power −f/e, f being v's own X power on q
+unfoldable pub cleared : ℕ → ℕ → ℕ → List ℕ → List ℕ → List ℕ
+cleared d n q pivot v = product d n v (power d n (neg d (xOf v q) * inverse d (xOf pivot q) % d) pivot)
+
+abbrev pub clearedBy : Measurement → List ℕ → List ℕ → List ℕ
+clearedBy c p v = cleared (c .d) (c .n) (c .q) (pivotIn (c .n) p) v
+
+-- t with v in the place of row i
+abbrev pub rowPut : ℕ → ℕ → List ℕ → List ℕ → List ℕ
+rowPut n i v t = put (i * (2 * n + 1)) (2 * n + 1) v t

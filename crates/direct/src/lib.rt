@@ -2,8 +2,8 @@
 ghost use mathlib.Core.Path.{_≡_};
 ghost use Prim.Native.Nat.{_*_, _≤_};
 ghost use lib.ListN.{length};
+ghost use Rattle.tables.specs.Tables.{Tables};
 ghost use Rattle.validity.specs.Validity.{Valid};
-ghost use Rattle.even.specs.Even.{plain};
 ghost use Rattle.circuit.specs.Circuit.{measured};
 ghost use Rattle.book.specs.Decoded.{operationsOf, errorsOf, Bodies};
 ghost use Rattle.run.specs.Direct.{directRun};
@@ -12,18 +12,23 @@ use body::Reading;
 use circuit::Progress;
 use tableau::Answer;
 
-// All operations, then the errors after them, on rows with even phases. The number of measurements.
-fn run_even(
+// All operations, then the errors after them. The number of measurements.
+fn run_by(
     t: &mut [u8],
     results: &mut [u8],
     ops: &[u8],
     errors: &[u8],
     choices: &[u8],
+    tables: &[u8],
     d: u8,
     n: usize,
 ) -> usize
-    requires { ⌜ Bodies d n (now ops) (now errors) (now choices) × (2 * length (now choices) ≤ length (now results)) × Valid d n (now t) ⌝ }
-    ensures { λ r. ⌜ (record { rows = plain d n (now (t .exit)); results = now (results .exit) } ≡ directRun d n (operationsOf d n (now (ops .entry))) (errorsOf (now (errors .entry))) (now (choices .entry)) (record { rows = plain d n (now (t .entry)); results = now (results .entry) })) × (r ≡ measured (operationsOf d n (now (ops .entry))) (length (operationsOf d n (now (ops .entry))))) × Valid d n (now (t .exit)) ⌝ }
+    requires { ⌜ Bodies d n (now ops) (now errors) (now choices)
+        × (2 * length (now choices) ≤ length (now results))
+        × Tables d (now tables)
+        × Valid d n (now t) ⌝ }
+    ensures { λ r. ⌜ (record { rows = now (t .exit); results = now (results .exit) } ≡ directRun d n (operationsOf d n (now (ops .entry))) (errorsOf (now (errors .entry))) (now (choices .entry)) (record { rows = now (t .entry); results = now (results .entry) }))
+        × (r ≡ measured (operationsOf d n (now (ops .entry))) (length (operationsOf d n (now (ops .entry))))) ⌝ }
 {
     let count = ops.len() / 4;
     let mut at = Progress {
@@ -32,16 +37,16 @@ fn run_even(
     };
     let mut k = 0;
     while k < count {
-        at = direct_step::advance(t, results, ops, errors, choices, k, at, d, n);
+        at = direct_step::advance(t, results, ops, errors, choices, k, at, tables, d, n);
         k += 1;
     }
     let from = at.entry;
-    direct_step::strike(t, errors, from, k, d, n);
+    direct_step::strike(t, errors, from, k, tables, d, n);
     at.measurements
 }
 
-// The same on rows with their own phases: 0 and the number of measurements.
-pub fn run(
+// The run of three bodies, by tables that are made once for all its steps: 0 and the number of measurements.
+fn run(
     t: &mut [u8],
     results: &mut [u8],
     ops: &[u8],
@@ -50,12 +55,14 @@ pub fn run(
     d: u8,
     n: usize,
 ) -> Answer
-    requires { ⌜ Bodies d n (now ops) (now errors) (now choices) × (2 * length (now choices) ≤ length (now results)) × Valid d n (now t) ⌝ }
+    requires { ⌜ Bodies d n (now ops) (now errors) (now choices)
+        × (2 * length (now choices) ≤ length (now results))
+        × Valid d n (now t) ⌝ }
     ensures { λ r. ⌜ record { number = r .number; place = r .place; tableau = now (t .exit); results = now (results .exit) } ≡ directBodies d n (now (ops .entry)) (now (errors .entry)) (now (choices .entry)) (record { rows = now (t .entry); results = now (results .entry) }) ⌝ }
 {
-    even::to_even(t, d, n);
-    let place = run_even(t, results, ops, errors, choices, d, n);
-    even::to_plain(t, d, n);
+    let mut tables = [0u8; 1152];
+    tables::make(&mut tables, d);
+    let place = run_by(t, results, ops, errors, choices, &tables, d, n);
     Answer { number: 0, place }
 }
 

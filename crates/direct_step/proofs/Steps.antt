@@ -11,11 +11,10 @@ use Rattle.run.specs.Direct.{State, strike, directOperation, directStrike, dire
 
 module _ (d n : ℕ) (ops : List Operation) (errors : List WeylError) (choices : List ℕ) where
   pub step-is :
-      (k : ℕ) (t results : List ℕ) {op : Operation} {j : ℕ} {struck : List ℕ} {after : State} →
-      opAt ops k ≡ op →
+      (k : ℕ) (t results : List ℕ) {j : ℕ} {struck : List ℕ} {after : State} →
       j ≡ measured ops k →
       struck ≡ strike d n errors k t (length errors) →
-      after ≡ directOperation d n choices j (record { rows = struck; results = results }) op →
+      after ≡ directOperation d n choices j (record { rows = struck; results = results }) (opAt ops k) →
       after ≡ directStep d n ops errors choices k (record { rows = t; results = results })
   unfolding directStep directStrike
-  step-is k t results o m s e = rw (o, ← m, ← s) e
+  step-is k t results m s e = rw (← m, ← s) e

@@ -1,3 +1,2 @@
 -- What the proofs of several functions use.
 pub mod Gain
-pub mod Even

@@ -1,25 +1,21 @@
--- The frame run is the carried circuit and then the shifts.
+-- The frame run is the clean run, the carried frame and then the shifts.
 -- Assumes nothing.
 use mathlib.Core.Path.{_≡_}
-use mathlib.Core.List.{List, _++_}
-use Prim.Native.Nat.{ℕ, _*_}
+use mathlib.Core.List.{List, [], _++_}
+use Prim.Native.Nat.{ℕ, _*_, _≤_}
 use lib.ListN.{length, drop}
 use Rattle.row.specs.Row.{tab}
 use Rattle.operation.specs.declared.Operation.{Operation}
 use Rattle.operation.specs.declared.WeylError.{WeylError}
-use Rattle.run.specs.Run.{onward}
-use Rattle.run.specs.Frame.{Framed, noFrame, strikeFrame, shiftAt, shiftRows, verdictOf, framedStrike, framedStep, framedAll, framedLeave, frameRunFrom, frameRun}
+use Rattle.circuit.specs.Circuit.{measured}
+use Rattle.run.specs.Direct.{State, directRun}
+use Rattle.run.specs.Frame.{noFrame, shiftAt, shiftRows, verdictOf, framedLeave, frameRun}
+use Rattle.run.specs.Raised.{finalFrame, resultShifts}
+use Rattle.run.specs.Carry.{withShifts}
+use Rattle.carrying.proofs.Clean.{frame-is-clean}
 use Rattle.framed.specs.FrameBook.{Buffers, FrameLeft, frameEnded}
 
 module _ (d n : ℕ) (ops : List Operation) (errors : List WeylError) (choices : List ℕ) where
-  -- the errors after all operations come last
-  pub all-ends : (st : Framed) {t results frame struck : List ℕ}
-      → record { rows = t; results = results; frame = frame } ≡ onward (framedStep d n ops errors choices) 0 st (length ops)
-      → struck ≡ strikeFrame d n errors (length ops) frame (length errors)
-      → record { rows = t; results = results; frame = struck } ≡ framedAll d n ops errors choices st
-  unfolding framedAll framedStrike
-  all-ends st e s = rw (← e, s)
-
   module _ (measurements : ℕ) (lent : Buffers) where
     -- what the frame run returns and leaves
     abbrev pub ran : FrameLeft
@@ -27,11 +23,13 @@ module _ (d n : ℕ) (ops : List Operation) (errors : List WeylError) (choices :
         frameEnded measurements
         (frameRun d n ops errors choices (record { rows = lent .tableau; results = lent .results }) (lent .shifts) (lent .frame))
 
-    pub run-ends : {F : List ℕ} {place verdict : ℕ} {t results frame t' shifts' frame' : List ℕ}
-        → F ≡ noFrame n
-        → record { rows = t; results = results; frame = frame }
-        ≡ framedAll d n ops errors choices (record { rows = lent .tableau; results = lent .results; frame = F })
+    pub run-ends : 2 * measured ops (length ops) ≤ length (lent .results)
+        → {place verdict : ℕ} {t results F told frame t' shifts' frame' : List ℕ}
         → place ≡ measurements
+        → record { rows = t; results = results } ≡ directRun d n ops [] choices (record { rows = lent .tableau; results = lent .results })
+        → F ≡ noFrame n
+        → frame ≡ finalFrame d n ops errors F
+        → told ≡ withShifts d (resultShifts d n ops errors 0 F (length ops)) (measured ops (length ops)) results
         → t' ≡ shiftRows d n frame t
         → shifts' ≡ tab (shiftAt d n frame t) (2 * n) ++ drop (2 * n) (lent .shifts)
         → frame' ≡ frame ++ drop (2 * n) (lent .frame)
@@ -41,8 +39,21 @@ module _ (d n : ℕ) (ops : List Operation) (errors : List WeylError) (choices :
           number = 0;
           place = place;
           verdict = verdict;
-          left = record { tableau = t'; results = results; shifts = shifts'; frame = frame' };
+          left = record { tableau = t'; results = told; shifts = shifts'; frame = frame' };
         })
         ran
-    unfolding frameRun frameRunFrom framedLeave
-    run-ends none e p a b c v = rw (← none, ← e, p, a, b, c, v)
+    unfolding frameRun framedLeave
+    run-ends room count clean none f r a b c v =
+        let st : State = record { rows = lent .tableau; results = lent .results } in
+        rw (
+          frame-is-clean d n ops errors choices (noFrame n) st (lent .shifts) (lent .frame) room,
+          ← clean,
+          ← none,
+          ← f,
+          a,
+          b,
+          c,
+          v,
+          r,
+          count,
+        )

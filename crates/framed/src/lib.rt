@@ -2,16 +2,11 @@
 ghost use mathlib.Core.Path.{_≡_};
 ghost use Prim.Native.Nat.{_*_, _≤_};
 ghost use lib.ListN.{length};
-ghost use Rattle.row.specs.Row.{Powers};
-ghost use Rattle.tableau.specs.Tableau.{Tableau};
 ghost use Rattle.validity.specs.Validity.{Valid};
-ghost use Rattle.even.specs.Even.{plain};
-ghost use Rattle.book.specs.Decoded.{operationsOf, errorsOf, Bodies};
-ghost use Rattle.circuit.specs.Circuit.{measured};
-ghost use Rattle.run.specs.Frame.{noFrame, framedAll};
+ghost use Rattle.book.specs.Decoded.{Bodies};
+ghost use Rattle.run.specs.Frame.{noFrame};
 ghost use Rattle.framed.specs.FrameBook.{frameRoomy, frameBodies, frameBook};
 use body::Reading;
-use circuit::Progress;
 
 // What the frame run returns: 0, the number of measurements and the verdict, 0 clean or 1 shifted; or a refusal's number, its
 // place and 0.
@@ -32,56 +27,7 @@ fn refused(number: usize, place: usize) -> FrameAnswer
     }
 }
 
-// All operations on rows with even phases, then the errors after them: the frame is the final one. The number of measurements.
-fn carry_even(
-    t: &mut [u8],
-    results: &mut [u8],
-    frame: &mut [u8],
-    ops: &[u8],
-    errors: &[u8],
-    choices: &[u8],
-    d: u8,
-    n: usize,
-) -> usize
-    requires { ⌜ Bodies d n (now ops) (now errors) (now choices) × (2 * length (now choices) ≤ length (now results)) × Powers d n (now frame) × Valid d n (now t) ⌝ }
-    ensures { λ r. ⌜ (record { rows = plain d n (now (t .exit)); results = now (results .exit); frame = now (frame .exit) } ≡ framedAll d n (operationsOf d n (now (ops .entry))) (errorsOf (now (errors .entry))) (now (choices .entry)) (record { rows = plain d n (now (t .entry)); results = now (results .entry); frame = now (frame .entry) })) × (r ≡ measured (operationsOf d n (now (ops .entry))) (length (operationsOf d n (now (ops .entry))))) × Valid d n (now (t .exit)) × Powers d n (now (frame .exit)) × (length (now (frame .exit)) ≡ length (now (frame .entry))) ⌝ }
-{
-    let count = ops.len() / 4;
-    let mut at = Progress {
-        entry: 0,
-        measurements: 0,
-    };
-    let mut k = 0;
-    while k < count {
-        at = frame_step::advance(t, results, frame, ops, errors, choices, k, at, d, n);
-        k += 1;
-    }
-    let from = at.entry;
-    frame_step::strike(frame, errors, from, k, d, n);
-    at.measurements
-}
-
-// The same on rows with their own phases.
-fn carry(
-    t: &mut [u8],
-    results: &mut [u8],
-    frame: &mut [u8],
-    ops: &[u8],
-    errors: &[u8],
-    choices: &[u8],
-    d: u8,
-    n: usize,
-) -> usize
-    requires { ⌜ Bodies d n (now ops) (now errors) (now choices) × (2 * length (now choices) ≤ length (now results)) × Powers d n (now frame) × Valid d n (now t) ⌝ }
-    ensures { λ r. ⌜ (record { rows = now (t .exit); results = now (results .exit); frame = now (frame .exit) } ≡ framedAll d n (operationsOf d n (now (ops .entry))) (errorsOf (now (errors .entry))) (now (choices .entry)) (record { rows = now (t .entry); results = now (results .entry); frame = now (frame .entry) })) × (r ≡ measured (operationsOf d n (now (ops .entry))) (length (operationsOf d n (now (ops .entry))))) × Tableau d n (now (t .exit)) × Powers d n (now (frame .exit)) × (length (now (frame .exit)) ≡ length (now (frame .entry))) ⌝ }
-{
-    even::to_even(t, d, n);
-    let carried = carry_even(t, results, frame, ops, errors, choices, d, n);
-    even::to_plain(t, d, n);
-    carried
-}
-
-// The frame run, with a frame that begins as none.
+// The frame run: the clean run, which has no errors; then the frame, none at first, carried over the circuit; then the shifts.
 fn run_in(
     t: &mut [u8],
     results: &mut [u8],
@@ -94,10 +40,16 @@ fn run_in(
     d: u8,
     n: usize,
 ) -> FrameAnswer
-    requires { ⌜ Bodies d n (now ops) (now errors) (now choices) × (2 * length (now choices) ≤ length (now results)) × (2 * n ≤ length (now shifts)) × (2 * n ≤ length (now out)) × (now frame ≡ noFrame n) × Valid d n (now t) ⌝ }
+    requires { ⌜ Bodies d n (now ops) (now errors) (now choices)
+        × (2 * length (now choices) ≤ length (now results))
+        × (2 * n ≤ length (now shifts))
+        × (2 * n ≤ length (now out))
+        × (now frame ≡ noFrame n)
+        × Valid d n (now t) ⌝ }
     ensures { λ r. ⌜ record { number = r .number; place = r .place; verdict = r .verdict; left = record { tableau = now (t .exit); results = now (results .exit); shifts = now (shifts .exit); frame = now (out .exit) } } ≡ frameBodies d n (now (ops .entry)) (now (errors .entry)) (now (choices .entry)) (record { tableau = now (t .entry); results = now (results .entry); shifts = now (shifts .entry); frame = now (out .entry) }) ⌝ }
 {
-    let place = carry(t, results, frame, ops, errors, choices, d, n);
+    let place = clean::run(t, results, ops, choices, d, n);
+    carry::carry(frame, results, ops, errors, d, n);
     let verdict = shift::finish(t, shifts, out, frame, d, n);
     FrameAnswer {
         number: 0,
@@ -106,7 +58,7 @@ fn run_in(
     }
 }
 
-// The same, with room for the longest frame.
+// The frame run of three bodies, with room for the longest frame.
 fn run(
     t: &mut [u8],
     results: &mut [u8],
@@ -118,7 +70,11 @@ fn run(
     d: u8,
     n: usize,
 ) -> FrameAnswer
-    requires { ⌜ Bodies d n (now ops) (now errors) (now choices) × (2 * length (now choices) ≤ length (now results)) × (2 * n ≤ length (now shifts)) × (2 * n ≤ length (now out)) × Valid d n (now t) ⌝ }
+    requires { ⌜ Bodies d n (now ops) (now errors) (now choices)
+        × (2 * length (now choices) ≤ length (now results))
+        × (2 * n ≤ length (now shifts))
+        × (2 * n ≤ length (now out))
+        × Valid d n (now t) ⌝ }
     ensures { λ r. ⌜ record { number = r .number; place = r .place; verdict = r .verdict; left = record { tableau = now (t .exit); results = now (results .exit); shifts = now (shifts .exit); frame = now (out .exit) } } ≡ frameBodies d n (now (ops .entry)) (now (errors .entry)) (now (choices .entry)) (record { tableau = now (t .entry); results = now (results .entry); shifts = now (shifts .entry); frame = now (out .entry) }) ⌝ }
 {
     let mut frame = [0u8; 128];

@@ -76,29 +76,24 @@ fn multiplier_powers(v: &mut [u8], q: usize, u: u8, d: u8, m: u16, n: usize)
     v[n + q] = modular::mul(d, m, b, w);
 }
 
-// The powers of a row or a frame after a gate.
-fn gate_powers(v: &mut [u8], operation: Operation, d: u8, m: u16, n: usize)
-    requires { ⌜ (allowed d n operation ≡ true) × (listed d ≡ true) × Powers d n (now v) × Reciprocal d m ⌝ }
-    ensures { λ _. ⌜ now (v .exit) ≡ gatePowers d n operation (now (v .entry)) ⌝ }
+// The gate on a frame. A measurement leaves it.
+pub fn gate_frame(frame: &mut [u8], operation: Operation, d: u8, m: u16, n: usize)
+    requires { ⌜ (listed d ≡ true)
+        × (allowed d n operation ≡ true)
+        × Powers d n (now frame)
+        × Reciprocal d m ⌝ }
+    ensures { λ _. ⌜ (now (frame .exit) ≡ gateFrame d n operation (now (frame .entry)))
+        × Powers d n (now (frame .exit)) ⌝ }
 {
     match operation {
-        Operation::Fourier { q } => fourier_powers(v, q, d, n),
-        Operation::PhaseGate { q } => phase_gate_powers(v, q, d, n),
-        Operation::Sum { c, t } => sum_powers(v, c, t, d, n),
-        Operation::Cz { c, t } => cz_powers(v, c, t, d, n),
-        Operation::Swap { c, t } => swap_powers(v, c, t, n),
-        Operation::Multiplier { q, u } => multiplier_powers(v, q, u, d, m, n),
+        Operation::Fourier { q } => fourier_powers(frame, q, d, n),
+        Operation::PhaseGate { q } => phase_gate_powers(frame, q, d, n),
+        Operation::Sum { c, t } => sum_powers(frame, c, t, d, n),
+        Operation::Cz { c, t } => cz_powers(frame, c, t, d, n),
+        Operation::Swap { c, t } => swap_powers(frame, c, t, n),
+        Operation::Multiplier { q, u } => multiplier_powers(frame, q, u, d, m, n),
         Operation::Measure { q: _ } => {}
     }
-}
-
-// The gate on a frame.
-pub fn gate_frame(frame: &mut [u8], operation: Operation, d: u8, n: usize)
-    requires { ⌜ (listed d ≡ true) × (allowed d n operation ≡ true) × Powers d n (now frame) ⌝ }
-    ensures { λ _. ⌜ (now (frame .exit) ≡ gateFrame d n operation (now (frame .entry))) × Powers d n (now (frame .exit)) ⌝ }
-{
-    let m = modular::reciprocal(d);
-    gate_powers(frame, operation, d, m, n);
 }
 
 // The error on a frame.

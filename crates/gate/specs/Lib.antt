@@ -1,2 +1,1 @@
-pub mod Even
-pub mod Tables
+pub mod Numbered

@@ -1,9 +1,8 @@
 // Inverses modulo the listed dimensions.
 ghost use mathlib.Core.Path.{_≡_};
-ghost use mathlib.Core.Bool.{true};
-ghost use Prim.Native.Nat.{_<_};
+ghost use Prim.Native.Nat.{_<_, _≤_};
 ghost use Rattle.modular.specs.Modular.{Reciprocal};
-ghost use Rattle.modular.specs.Dimension.{listed, powerOf, inverse};
+ghost use Rattle.modular.specs.Dimension.{powerOf, inverse};
 
 // u to the power k, by squares: 7 products for an inverse modulo 31, and not 29.
 fn power(d: u8, m: u16, u: u8, k: u8) -> u8
@@ -25,7 +24,7 @@ fn power(d: u8, m: u16, u: u8, k: u8) -> u8
 
 // The inverse of u modulo d, as u to the power d − 2: 0 for 0 and for every u from d up.
 pub fn inverse(d: u8, u: u8) -> u8
-    requires { ⌜ listed d ≡ true ⌝ }
+    requires { ⌜ (3 ≤ d) × (d ≤ 31) ⌝ }
     ensures { λ r. ⌜ r ≡ inverse d u ⌝ }
 {
     if u >= d {

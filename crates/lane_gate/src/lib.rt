@@ -8,7 +8,7 @@ ghost use Rattle.operation.specs.Gate.{gateFrame};
 ghost use Rattle.circuit.specs.Circuit.{opAt};
 ghost use Rattle.book.specs.Decoded.{operationsOf};
 ghost use Rattle.lanes.specs.Lanes.{Lanes, Each};
-ghost use Rattle.lane_gate.specs.LaneGate.{AllAllowed};
+ghost use Rattle.codes.specs.Allowed.{AllAllowed};
 
 // Operation k on each lane, by its code: the reader has accepted the entry, so nothing is tested again.
 pub fn perform(v: &mut [u8], ops: &[u8], k: usize, d: u8, n: usize)

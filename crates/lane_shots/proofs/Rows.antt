@@ -2,13 +2,10 @@
 -- Assumes nothing.
 use mathlib.Core.Path.{_≡_, refl, sym, ap, ap₂, _∙_}
 use mathlib.Core.List.{List, _∷_}
-use Prim.Native.Nat.{ℕ, zero, suc, _+_, _*_, _/_, _%_, _<_, _≤_}
-use native.Mathlib.Nat.{div-add-mod, mod-lt}
-use native.Mathlib.Decide.{ℕ-discrete}
+use Prim.Native.Nat.{ℕ, zero, suc, _+_, _*_, _<_, _≤_}
 use native.Mathlib.Omega.{arith}
 use lib.ListN.{length, getD}
 use lib.Seq.{ext-getD}
-use borrow.Author.Tests.{eq-eqb, ne-eqb}
 use Rattle.row.specs.Row.{tab}
 use Rattle.row.proofs.Fill.{tab-length, tab-get}
 use Rattle.tableau.proofs.Parts.{row-in, part-length}
@@ -18,11 +15,13 @@ use Rattle.circuit.specs.Circuit.{measured}
 use Rattle.run.specs.Direct.{State}
 use Rattle.run.specs.Frame.{noFrame, verdictOf}
 use Rattle.run.specs.Raised.{finalFrame, resultShifts}
+use Rattle.run.specs.Carry.{toldAt}
+use Rattle.run.proofs.Carry.{told-byte}
 use Rattle.tile.specs.Tile.{shotAt}
 use Rattle.block.specs.Carried.{CarriedAll}
 use Rattle.block.specs.Block.{Empty, AllTold}
 use Rattle.verdicts.specs.Verdicts.{shiftedLanes, Judged, verdictIn}
-use Rattle.shots.specs.Clean.{toldAt, cleanPlus}
+use Rattle.shots.specs.Clean.{cleanPlus}
 use Rattle.lane_shots.specs.LaneShots.{verdictBy, bytesBy, shiftedBy, ShotRows}
 
 module _ (d n : ℕ) (ops : List Operation) (clean : State) (errors : ℕ → List WeylError) (used : ℕ) (out out' : List ℕ)
@@ -38,22 +37,10 @@ module _ (d n : ℕ) (ops : List Operation) (clean : State) (errors : ℕ → Li
   told = toldAt d (clean .results) (resultShifts d n ops (errors l) 0 (noFrame n) (length ops))
 
   byte : (b : ℕ) → b < 2 * total → getD shot (suc b) 0 ≡ told b
-  byte b g = by (ℕ-discrete (b % 2) 0)
-    where
-      by : Dec (b % 2 ≡ 0) → getD shot (suc b) 0 ≡ told b
-      by (yes e) =
-          let q : b ≡ 2 * (b / 2) = omega (arith, div-add-mod b 2) in
-          let p : suc b ≡ 1 + 2 * (b / 2) = omega arith in
-          rw (eq-eqb (b % 2) 0 e)
-          (ap (λ (x : ℕ). getD shot x 0) p ∙ h .outcomes l (b / 2) low (omega (arith, div-add-mod b 2))
-          ∙ ap (λ (x : ℕ). (getD (clean .results) x 0 + getD (resultShifts d n ops (errors l) 0 (noFrame n) (length ops)) (b / 2) 0) % d) (sym q))
-      by (no e) =
-          let two : 0 < 2 = omega arith in
-          let odd : b % 2 ≡ 1 = omega (arith, mod-lt b two) in
-          let q : b ≡ 2 * (b / 2) + 1 = omega (arith, div-add-mod b 2) in
-          let p : suc b ≡ 2 + 2 * (b / 2) = omega arith in
-          rw (ne-eqb (b % 2) 0 e)
-          (ap (λ (x : ℕ). getD shot x 0) p ∙ h .marks-too l (b / 2) low (omega (arith, div-add-mod b 2)) ∙ ap (λ (x : ℕ). getD (clean .results) x 0) (sym q))
+  byte =
+      told-byte d (resultShifts d n ops (errors l) 0 (noFrame n) (length ops)) (clean .results) total (λ b. getD shot (suc b) 0)
+      (λ j g. let p : suc (2 * j) ≡ 1 + 2 * j = omega arith in rw p (h .outcomes l j low g))
+      (λ j g. let p : suc (2 * j + 1) ≡ 2 + 2 * j = omega arith in rw p (h .marks-too l j low g))
 
   row-is : getD shot 0 0 ≡ verdictOf d n (finalFrame d n ops (errors l) (noFrame n)) (clean .rows) → shot ≡ cleanPlus d n ops clean (errors l)
   unfolding cleanPlus

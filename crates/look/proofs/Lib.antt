@@ -1,2 +1,2 @@
--- What the proofs of several functions use.
+-- What a certain outcome comes from.
 pub mod Sums

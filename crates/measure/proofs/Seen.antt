@@ -10,11 +10,7 @@ use Rattle.row.specs.Row.{phaseOf}
 use Rattle.search.specs.declared.Place.{Place}
 use Rattle.search.specs.declared.Place.the-variants.{At, Nowhere}
 use Rattle.search.proofs.Search.{found-fails}
-use Rattle.tableau.specs.Tableau.{Tableau}
 use Rattle.validity.specs.Validity.{Valid}
-use Rattle.validity.proofs.Exactly.{valid-tableau}
-use Rattle.even.specs.Even.{plain}
-use Rattle.even.proofs.Plain.{valid-as-plain}
 use Rattle.outcome.specs.declared.Look.{Look}
 use Rattle.outcome.specs.declared.Look.the-variants.{Free, Certain}
 use Rattle.outcome.specs.Look.{commutes, pivotOf, weighted, lookBy, look}
@@ -34,10 +30,7 @@ look-fits d n t q h e = subst (Fits d n) e (by (pivotOf n t q) refl)
     by Nowhere e = neg-less d (phaseOf n (weighted d n t q)) h
 
 pub collapse-valid : {d n q k m : ℕ} {t' : List ℕ} → Dimension d → (t : List ℕ) → Valid d n t → q < n → m < d
-    → look d n (plain d n t) q ≡ Free k
-    → plain d n t' ≡ collapse d n q k m (plain d n t)
-    → Tableau d n t'
+    → look d n t q ≡ Free k
+    → t' ≡ collapse d n q k m t
     → Valid d n t'
-collapse-valid {d} {n} {q} {k} {m} {t'} dim t ok lq lm seen e bytes =
-    let old = valid-as-plain d n dim t (valid-tableau d n t ok) .0 ok in
-    valid-as-plain d n dim t' bytes .1 (rw e (collapse-keeps-valid d n dim (plain d n t) old q k m lq lm seen))
+collapse-valid {d} {n} {q} {k} {m} {t'} dim t ok lq lm seen e = rw e (collapse-keeps-valid d n dim t ok q k m lq lm seen)

@@ -6,13 +6,12 @@ use mathlib.Core.List.{List}
 use Prim.Native.Nat.{ℕ, suc, _+_, _*_, _<_}
 use native.Mathlib.Omega.{arith}
 use lib.ListN.{getD}
-use borrow.Author.Tests.{ne-eqb}
 use Rattle.congruence.proofs.Congruence.{Cong, cong-eq, cong-sym, cong-trans, cong-mul-left, small-cong}
 use Rattle.stabilizer.proofs.Basis
 use Rattle.stabilizer.proofs.Member.{member-certain, member-unique}
 use Rattle.modular.specs.Modular.{neg}
 use Rattle.modular.specs.Dimension.{Dimension}
-use Rattle.row.specs.Row.{xOf, phaseOf}
+use Rattle.row.specs.Row.{phaseOf}
 use Rattle.row.specs.Generators.{unit, zWith}
 use Rattle.row.proofs.Fill.{row-power, row-phase}
 use Rattle.weyl.proofs.Reading.{bytes, reads-self, reads-cong, unique, neg-is}
@@ -28,10 +27,6 @@ use Rattle.measurement.proofs.Looks.{Commuting, commuting-of, Looks, fr
 z-power : (n q r s : ℕ) → s < 2 * n → getD (zWith n q r) s 0 ≡ unit (n + q) s
 unfolding zWith
 z-power n q r = row-power n (unit (n + q)) r
-
--- it has no X powers
-pub z-x : (n q r k : ℕ) → k < n → xOf (zWith n q r) k ≡ 0
-z-x n q r k l = z-power n q r k (omega arith) ∙ rw (ne-eqb k (n + q) (λ e. omega arith))
 
 pub z-phase : (n q r : ℕ) → phaseOf n (zWith n q r) ≡ r
 unfolding zWith

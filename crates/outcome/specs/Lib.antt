@@ -1,4 +1,2 @@
 pub mod Look
 pub mod Collapse
-pub mod EvenLook
-pub mod EvenCollapse

@@ -1,4 +1,4 @@
 pub mod Row
 pub mod Fill
 pub mod Generators
-pub mod Even
+pub mod Multiple

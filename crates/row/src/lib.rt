@@ -3,10 +3,10 @@ ghost use mathlib.Core.Path.{_≡_};
 ghost use Prim.Native.Nat.{_+_, _*_, _%_, _<_, _≤_};
 ghost use lib.ListN.{length};
 ghost use Rattle.modular.specs.Modular.{neg, Reciprocal, WideReciprocal};
-ghost use Rattle.row.specs.Row.{Powers, Row, tab, rowOf, dot, sumAt, pairing};
+ghost use Rattle.row.specs.Row.{Powers, Row, tab, rowOf, dot, sumAt, product, pairing};
 ghost use Rattle.row.specs.Generators.{unit};
 ghost use Rattle.row.specs.Fill.{filled, multipleAt};
-ghost use Rattle.row.specs.Even.{added};
+ghost use Rattle.row.specs.Multiple.{XPowers, Multiple};
 
 pub fn wide(x: u8) -> u16
     ensures { λ r. ⌜ r ≡ x ⌝ }
@@ -36,17 +36,49 @@ fn add(v: &mut [u8], w: &[u8], d: u8, n: usize)
     }
 }
 
-// v becomes v times w, for rows with even phases that commute: every byte gains w's.
-pub fn even_product(v: &mut [u8], w: &[u8], d: u8, n: usize)
-    requires { ⌜ (d ≤ 31) × Row d n (now v) × Row d n (now w) ⌝ }
-    ensures { λ _. ⌜ now (v .exit) ≡ added d n (now (v .entry)) (now (w .entry)) ⌝ }
+// Σ b·x over the qudits, b of v: at most 64·30·30, which fits.
+fn mixed(v: &[u8], xs: &[u16], n: usize) -> u16
+    requires { ⌜ (n ≤ 64)
+        × Powers 31 n (now v)
+        × XPowers 31 n (now xs) ⌝ }
+    ensures { λ r. ⌜ (r ≡ dot n (now (v .entry)) (now (xs .entry)) n)
+        × (r ≤ 57600) ⌝ }
 {
-    let last = 2 * n;
-    add(v, w, d, n);
-    v[last] = modular::add(d, v[last], w[last]);
+    let mut sum: u16 = 0;
+    for k in 0..n {
+        sum += wide(v[n + k]) * xs[k];
+    }
+    sum
 }
 
-fn difference(plus: u16, minus: u16, d: u8, m: u64) -> u8
+// r + s + h·mixed
+fn product_phase(r: u8, s: u8, h: u8, mixed: u16, d: u8, m: u64) -> u8
+    requires { ⌜ (h ≤ 30)
+        × WideReciprocal d m ⌝ }
+    ensures { λ p. ⌜ p ≡ (r + s + h * mixed) % d ⌝ }
+{
+    modular::reduce_wide(r as u32 + s as u32 + (h as u32) * (mixed as u32), d, m)
+}
+
+// v becomes v times w. The X powers of w are h·x modulo d, so h·Σ b·x stands for Σ b·a': a sum over numbers of 16 bits.
+pub fn product(v: &mut [u8], w: &[u8], xs: &[u16], h: u8, d: u8, m: u64, n: usize)
+    requires { ⌜ (n ≤ 64)
+        × Row d n (now v)
+        × Row d n (now w)
+        × (h < d)
+        × Multiple d n h (now xs) (now w)
+        × WideReciprocal d m ⌝ }
+    ensures { λ _. ⌜ now (v .exit) ≡ product d n (now (v .entry)) (now (w .entry)) ⌝ }
+{
+    let last = 2 * n;
+    let sum = mixed(v, xs, n);
+    let r = product_phase(v[last], w[last], h, sum, d, m);
+    add(v, w, d, n);
+    v[last] = r;
+}
+
+// plus − minus, reduced
+pub fn difference(plus: u16, minus: u16, d: u8, m: u64) -> u8
     requires { ⌜ WideReciprocal d m ⌝ }
     ensures { λ r. ⌜ r ≡ (plus + neg d minus) % d ⌝ }
 {
@@ -78,12 +110,6 @@ pub fn multiples(z: &mut [u8], x: u8, d: u8, m: u16)
     for k in 0..z.len() {
         z[k] = modular::reduce(wide(x) * small(k), d, m);
     }
-}
-
-fn one_at(p: usize, s: usize) -> u8
-    ensures { λ r. ⌜ r ≡ unit p s ⌝ }
-{
-    if s == p { 1 } else { 0 }
 }
 
 // v becomes the row with power 1 at p, else 0, and phase r: X on p, or Z on p − n.

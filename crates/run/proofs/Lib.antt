@@ -4,4 +4,5 @@ pub mod Strikes
 pub mod Frames
 pub mod Results
 pub mod Shifts
+pub mod Carry
 pub mod Worked

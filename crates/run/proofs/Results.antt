@@ -1,16 +1,32 @@
--- Measurements are numbered in order, and each writes two bytes of its own.
+-- Measurements are numbered in order, and each writes two bytes of its own; the results keep their length.
 -- Assumes nothing.
-use mathlib.Core.Path.{_≡_, ap, _∙_}
+use mathlib.Core.Path.{_≡_, refl, ap, _∙_}
 use mathlib.Core.Logic.{_≢_}
 use mathlib.Core.List.{List}
 use Prim.Native.Nat.{ℕ, zero, suc, _+_, _*_, _≤_, _<_}
+use native.Mathlib.Numerals.{add-one}
 use native.Mathlib.Decide.{ℕ-discrete}
 use native.Mathlib.Omega.{arith}
 use lib.ListN.{length, getD, set, length-set}
 use lib.Seq.{getD-set-same, getD-set-other}
 use Rattle.operation.specs.declared.Operation.{Operation}
-use Rattle.circuit.specs.Circuit.{opAt, Kind, measures, kind, tallyKind, measured}
-use Rattle.run.specs.Run.{noted}
+use Rattle.operation.specs.declared.Operation.the-variants.{Fourier, PhaseGate, Sum, Cz, Swap, Multiplier, Measure}
+use Rattle.operation.specs.declared.WeylError.{WeylError}
+use Rattle.circuit.specs.Circuit.{opAt, Kind, gate, measures, kind, tallyKind, tally, measured}
+use Rattle.outcome.specs.declared.Look.{Look}
+use Rattle.outcome.specs.declared.Look.the-variants.{Free, Certain}
+use Rattle.outcome.specs.Look.{look}
+use Rattle.run.specs.Run.{onward, noted}
+use Rattle.run.specs.Direct.{State, directLook, directKind, directStrike, directStep, directRun}
+
+pub is-measure : (op : Operation) (q : ℕ) → kind op ≡ measures q → op ≡ Measure q
+is-measure (Fourier c) q e = cc
+is-measure (PhaseGate c) q e = cc
+is-measure (Sum c t) q e = cc
+is-measure (Cz c t) q e = cc
+is-measure (Swap c t) q e = cc
+is-measure (Multiplier c u) q e = cc
+is-measure (Measure c) q e = cc
 
 module _ (ops : List Operation) where
   pub measured-more : (j k : ℕ) → j ≤ k → measured ops j ≤ measured ops k
@@ -23,6 +39,14 @@ module _ (ops : List Operation) where
       by : Dec (j ≡ suc k) → (j ≤ k → measured ops j ≤ measured ops k) → measured ops j ≤ measured ops (suc k)
       by (yes q) ih = omega (arith, ap (measured ops) q)
       by (no q) ih = omega (arith, ih (omega arith))
+
+  -- operation k is counted if it is a measurement, and is one of them all
+  pub measured-step : (k : ℕ) → measured ops (k + 1) ≡ measured ops k + tally (opAt ops k)
+  unfolding measured
+  measured-step k = rw (add-one k)
+
+  pub measured-in : (k : ℕ) → k < length ops → measured ops k + tally (opAt ops k) ≤ measured ops (length ops)
+  measured-in k l = omega (arith, measured-step k, measured-more (k + 1) (length ops) (omega arith))
 
   pub measured-next : (k q : ℕ) → kind (opAt ops k) ≡ measures q → measured ops (suc k) ≡ measured ops k + 1
   unfolding measured
@@ -51,3 +75,23 @@ module _ (results : List ℕ) (j outcome mark : ℕ) where
   unfolding noted
   noted-other i x y =
       getD-set-other (set results (2 * j) outcome) (2 * j + 1) i mark 0 y ∙ getD-set-other results (2 * j) i outcome 0 x
+
+module _ (d n : ℕ) (ops : List Operation) (errors : List WeylError) (choices : List ℕ) where
+  direct-look : (j q : ℕ) (st : State) (x : Look) → length (directLook d n choices j q st x .results) ≡ length (st .results)
+  unfolding directLook
+  direct-look j q st (Free k) = noted-length (st .results) j _ _
+  direct-look j q st (Certain outcome) = noted-length (st .results) j _ _
+
+  direct-kind : (j : ℕ) (st : State) (op : Operation) (x : Kind) → length (directKind d n choices j st op x .results) ≡ length (st .results)
+  unfolding directKind
+  direct-kind j st op gate = refl
+  direct-kind j st op (measures q) = direct-look j q st (look d n (st .rows) q)
+
+  pub onward-results : (st : State) (count : ℕ) → length (onward (directStep d n ops errors choices) 0 st count .results) ≡ length (st .results)
+  unfolding onward directStep directStrike
+  onward-results st zero = refl
+  onward-results st (suc count) = direct-kind (measured ops (0 + count)) _ (opAt ops (0 + count)) (kind (opAt ops (0 + count))) ∙ onward-results st count
+
+  pub direct-results : (st : State) → length (directRun d n ops errors choices st .results) ≡ length (st .results)
+  unfolding directRun directStrike
+  direct-results st = onward-results st (length ops)

@@ -6,6 +6,7 @@ use Prim.Native.Nat.{ℕ}
 use Rattle.modular.specs.Dimension.{inverse, powerOf}
 use Rattle.row.specs.Row.{tab, rowOf, dot, product, power, pairing}
 use Rattle.row.specs.Generators.{zWith}
+use Rattle.row.specs.Fill.{filled}
 use Rattle.weyl.specs.Scalar.{scalar}
 use Rattle.search.specs.Search.{all, firstNot}
 use Rattle.tableau.specs.Tableau.{part, put, eachRow}
@@ -21,10 +22,13 @@ use Rattle.run.specs.Run.{onward, noted}
 use Rattle.run.specs.Direct.{strike, directLook, directKind, directStrike, directStep, directRun}
 use Rattle.run.specs.Frame.{Ended, noFrame, strikeFrame, shiftRow, verdictOf, framedLook, framedKind, framedStrike, framedStep, framedAll, framedLeave, frameRunFrom, frameRun}
 use Rattle.run.specs.Raised.{carryBy, struckFrame, carried, shiftBy, resultShifts, raised}
+use Rattle.run.specs.Carry.{withShifts, cleanCarried}
 
--- The frame run leaves `end` and, with the raised choices, the direct run the same rows and results. Nothing else is in the buffers.
+-- The frame run leaves `end`, and so does the clean run with the carried frame; with the raised choices, the direct run leaves the same
+-- rows and results. Nothing else is in the buffers.
 record Both (n : ℕ) (ops : List Operation) (errors : List WeylError) (choices second rows results : List ℕ) (end : Ended) : Type 0 where
   framed : frameRun 3 n ops errors choices (record { rows = rows; results = results }) [] [] ≡ end
+  carries : framedLeave 3 n ops errors choices [] [] (cleanCarried 3 n ops errors (noFrame n) (directRun 3 n ops [] choices (record { rows = rows; results = results }))) ≡ end
   raises : raised 3 n ops errors (noFrame n) choices ≡ second
   struck : directRun 3 n ops errors second (record { rows = rows; results = results }) ≡ record { rows = end .rows; results = end .results }
 
@@ -71,10 +75,10 @@ Level0 = Both 1 [] (record { place = 0; qudit = 0; p = 0; s = 1 } ∷ []) [] []
     (record { rows = 1 ∷ 0 ∷ 1 ∷ 0 ∷ 1 ∷ 0 ∷ []; results = []; shifts = 1 ∷ 0 ∷ []; frame = 0 ∷ 1 ∷ []; verdict = 0 })
 
 worked : Book × Ends × Free × Level0
-unfolding onward noted measured frameRun frameRunFrom framedStep framedKind framedLook framedStrike framedAll framedLeave verdictOf shiftRow strikeFrame errorFrame raised resultShifts shiftBy carried carryBy struckFrame directRun directStep directKind directLook directStrike strike errorRow look pivotOf firstNot combination weighted all collapse collapseRow eachRow part put product power pairing scalar zWith rowOf tab dot gateRow gatePowers gatePhase inverse powerOf
+unfolding onward noted measured frameRun frameRunFrom framedStep framedKind framedLook framedStrike framedAll framedLeave verdictOf shiftRow strikeFrame errorFrame raised resultShifts shiftBy carried carryBy struckFrame withShifts filled directRun directStep directKind directLook directStrike strike errorRow look pivotOf firstNot combination weighted all collapse collapseRow eachRow part put product power pairing scalar zWith rowOf tab dot gateRow gatePowers gatePhase inverse powerOf
 worked = (
-  record { framed = refl; raises = refl; struck = refl },
-  record { framed = refl; raises = refl; struck = refl },
-  record { framed = refl; raises = refl; struck = refl },
-  record { framed = refl; raises = refl; struck = refl },
+  record { framed = refl; carries = refl; raises = refl; struck = refl },
+  record { framed = refl; carries = refl; raises = refl; struck = refl },
+  record { framed = refl; carries = refl; raises = refl; struck = refl },
+  record { framed = refl; carries = refl; raises = refl; struck = refl },
 )

@@ -2,3 +2,4 @@ pub mod Run
 pub mod Direct
 pub mod Frame
 pub mod Raised
+pub mod Carry

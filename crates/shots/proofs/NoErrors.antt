@@ -1,15 +1,13 @@
 -- A shot without errors has the clean run's own bytes, and is clean.
 -- Assumes nothing.
-use mathlib.Core.Path.{_≡_, sym, _∙_}
+use mathlib.Core.Path.{_≡_, refl, sym, _∙_}
 use mathlib.Core.Bool.{true}
 use mathlib.Core.List.{List, [], _∷_}
-use Prim.Native.Nat.{ℕ, _*_, _/_, _%_, _<_}
-use native.Mathlib.Nat.{le-refl, div-add-mod, add-zero, mod-eq-of-lt}
-use native.Mathlib.Decide.{ℕ-discrete}
+use Prim.Native.Nat.{ℕ, _*_, _<_}
+use native.Mathlib.Nat.{le-refl, add-zero, mod-eq-of-lt}
 use native.Mathlib.Omega.{arith}
 use lib.ListN.{length, getD}
 use lib.Seq.{ext-getD}
-use borrow.Author.Tests.{eq-eqb, ne-eqb}
 use Rattle.modular.specs.Dimension.{Dimension}
 use Rattle.row.specs.Row.{tab}
 use Rattle.row.proofs.Fill.{tab-length, tab-get}
@@ -19,8 +17,10 @@ use Rattle.circuit.specs.Circuit.{opAt, measured}
 use Rattle.run.specs.Direct.{State}
 use Rattle.run.specs.Frame.{noFrame}
 use Rattle.run.specs.Raised.{resultShifts}
+use Rattle.run.specs.Carry.{toldAt}
+use Rattle.run.proofs.Carry.{told-byte}
 use Rattle.carrying.proofs.NoErrors.{shifts-none, final-clean}
-use Rattle.shots.specs.Clean.{toldAt, cleanPlus}
+use Rattle.shots.specs.Clean.{cleanPlus}
 
 module _ (d n : ℕ) (dim : Dimension d) (ops : List Operation) (good : (k : ℕ) → k < length ops → allowed d n (opAt ops k) ≡ true) (clean : State)
     (exact : length (clean .results) ≡ 2 * measured ops (length ops))
@@ -31,16 +31,13 @@ module _ (d n : ℕ) (dim : Dimension d) (ops : List Operation) (good : (k : ℕ
   abbrev shifts : List ℕ
   shifts = resultShifts d n ops [] 0 (noFrame n) (length ops)
 
-  no-shift : (b : ℕ) → b < 2 * total → toldAt d (clean .results) shifts b ≡ getD (clean .results) b 0
-  no-shift b l = by (ℕ-discrete (b % 2) 0)
-    where
-      by : Dec (b % 2 ≡ 0) → toldAt d (clean .results) shifts b ≡ getD (clean .results) b 0
-      by (yes e) =
-          let q : 2 * (b / 2) ≡ b = omega (arith, div-add-mod b 2) in
-          let small : getD (clean .results) b 0 < d = rw q at (below (b / 2) (omega (arith, div-add-mod b 2))) in
-          rw (eq-eqb (b % 2) 0 e, shifts-none d n dim ops good (length ops) (le-refl (length ops)) (b / 2), add-zero (getD (clean .results) b 0))
-          (mod-eq-of-lt small)
-      by (no e) = rw (ne-eqb (b % 2) 0 e)
+  no-shift : (b : ℕ) → b < 2 * total → getD (clean .results) b 0 ≡ toldAt d (clean .results) shifts b
+  no-shift =
+      told-byte d shifts (clean .results) total (λ b. getD (clean .results) b 0)
+      (λ j l.
+      rw (shifts-none d n dim ops good (length ops) (le-refl (length ops)) j, add-zero (getD (clean .results) (2 * j) 0))
+      (sym (mod-eq-of-lt (below j l))))
+      (λ j l. refl)
 
   pub clean-alone : cleanPlus d n ops clean [] ≡ 0 ∷ clean .results
   unfolding cleanPlus
@@ -50,5 +47,5 @@ module _ (d n : ℕ) (dim : Dimension d) (ops : List Operation) (good : (k : ℕ
       ext-getD 0 _ _ (size ∙ sym exact)
       (λ b l.
       let k : b < 2 * total = omega (arith, size) in
-      tab-get (toldAt d (clean .results) shifts) (2 * total) b 0 k ∙ no-shift b k) in
+      tab-get (toldAt d (clean .results) shifts) (2 * total) b 0 k ∙ sym (no-shift b k)) in
       rw (final-clean d n dim ops good (clean .rows), same)

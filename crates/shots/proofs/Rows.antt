@@ -13,7 +13,6 @@ use Rattle.operation.specs.declared.Operation.{Operation}
 use Rattle.circuit.specs.Circuit.{measured}
 use Rattle.book.specs.Decoded.{errorsOf}
 use Rattle.tray.specs.Tray.{shotBody}
-use Rattle.run.specs.Frame.{noFrame, frameRun}
 use Rattle.shots.specs.Shots.{shotBytes, runOf, shotRow, filledBy, cleanAmong, shiftedAmong}
 use Rattle.shots.proofs.Clean.{frame-results}
 
@@ -22,10 +21,10 @@ module _ (d n : ℕ) (ops : List Operation) (choices t tray : List ℕ) where
   total = measured ops (length ops)
 
   shot-length : (i : ℕ) → length (shotBytes (runOf d n ops choices t tray i)) ≡ 1 + 2 * total
-  unfolding frameRun
   shot-length i =
-      let e = frame-results d n ops (errorsOf (shotBody tray i)) choices (2 * total) (noFrame n) [] [] (record { rows = t; results = replicate (2 * total) 0 }) (length-replicate (2 * total) 0) in
-      omega (arith, e)
+      let size : length {A = ℕ} (replicate (2 * total) 0) ≡ 2 * total = length-replicate (2 * total) 0 in
+      let e = frame-results d n ops (errorsOf (shotBody tray i)) choices (record { rows = t; results = replicate (2 * total) 0 }) [] [] (omega arith) in
+      omega (arith, e, size)
 
   pub keeps : Keeps (1 + 2 * total) (shotRow d n ops choices t tray)
   unfolding shotRow

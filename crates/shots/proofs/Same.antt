@@ -21,10 +21,9 @@ use Rattle.run.specs.Raised.{finalFrame, resultShifts}
 use Rattle.carrying.proofs.Window.{Window, window-of}
 use Rattle.carrying.proofs.Told.{told-none, told-bytes, Equal}
 use Rattle.carrying.proofs.Buffers.{Twin, twin-run}
-use Rattle.carrying.proofs.Clean.{frame-is-clean}
 use Rattle.shots.specs.Shots.{shotBytes, shotRun}
 use Rattle.shots.specs.Clean.{cleanPlus}
-use Rattle.shots.proofs.Clean.{frame-results, told-first, clean-serves}
+use Rattle.shots.proofs.Clean.{told-first, clean-serves}
 
 verdict-same : (d n : ℕ) (F t u : List ℕ) → Window n t u → verdictOf d n F t ≡ verdictOf d n F u
 unfolding verdictOf
@@ -51,7 +50,6 @@ pub shot-any : (d n : ℕ) → 1 < d → (ops : List Operation) (errors : List W
     → 2 * measured ops (length ops) ≤ length results
     → let end = frameRun d n ops errors choices (record { rows = t; results = results }) shifts frame in
     shotBytes (shotRun d n ops choices t errors) ≡ end .verdict ∷ take (2 * measured ops (length ops)) (end .results)
-unfolding frameRun
 shot-any d n low ops errors choices t results shifts frame room long =
     let total = measured ops (length ops) in
     let lent : State = record { rows = t; results = results } in
@@ -61,7 +59,6 @@ shot-any d n low ops errors choices t results shifts frame room long =
     let twins =
     twin-run d n low ops [] choices {A = lent} {B = record { rows = t; results = blank }}
     (record { rows = window-of n room room (λ i l. refl); results = told-none Equal total long own }) in
-    let same = frame-results d n ops errors choices (length results) (noFrame n) shifts frame lent refl in
     clean-serves d n ops choices t errors
     ∙ plus-same d n ops _ _ errors twins
-    ∙ sym (told-first d n ops errors (frame-is-clean d n ops errors choices (noFrame n) lent shifts frame long) (omega (arith, same)))
+    ∙ sym (told-first d n ops errors choices lent shifts frame long)

@@ -7,7 +7,6 @@ use native.Mathlib.Nat.{le-refl}
 use native.Mathlib.Omega.{arith}
 use lib.ListN.{length, getD, take, replicate}
 use Rattle.modular.proofs.Listed.{dimension}
-use Rattle.row.specs.Row.{tab}
 use Rattle.tableau.specs.Tableau.{part}
 use Rattle.tableau.proofs.Parts.{part-length, part-at}
 use Rattle.operation.specs.declared.Operation.{Operation}
@@ -18,15 +17,14 @@ use Rattle.outcome.specs.declared.Look.{Look}
 use Rattle.outcome.specs.declared.Look.the-variants.{Free, Certain}
 use Rattle.outcome.specs.Look.{look}
 use Rattle.measure.proofs.Seen.{look-fits}
-use Rattle.book.specs.Decoded.{operationsOf, errorsOf, Bodies}
+use Rattle.book.specs.Decoded.{operationsOf}
 use Rattle.run.specs.Run.{onward}
 use Rattle.run.specs.Direct.{State, directLook, directKind, directStrike, directStep, directRun}
-use Rattle.run.proofs.Results.{measured-before, noted-length}
+use Rattle.run.proofs.Results.{measured-before, direct-results}
 use Rattle.carrying.proofs.Books.{choice-in}
 use Rattle.carrying.proofs.Told.{Told, told-none, told-more}
 use Rattle.carrying.proofs.Window.{Window, window-of, valid-window}
 use Rattle.carrying.proofs.Sound.{run-keeps-valid}
-use Rattle.direct.specs.DirectBook.{Left, directBodies}
 use Rattle.shots.specs.Clean.{cleanRun}
 use Rattle.lane_shots.specs.LaneShots.{blank, Fits, shiftedBy}
 use Rattle.lane_shots.proofs.Starting.{blank-length}
@@ -75,28 +73,6 @@ module _ (d n : ℕ) (low : 0 < d) (ops : List Operation) (choices : List ℕ) (
   unfolding directRun directStrike
   low-run A room = low-onward A (told-none (Low d) total room room) (length ops) (le-refl (length ops))
 
--- A direct run keeps the length of the results.
-module _ (d n : ℕ) (ops : List Operation) (choices : List ℕ) where
-  long-look : (j q : ℕ) (st : State) (x : Look) → length (directLook d n choices j q st x .results) ≡ length (st .results)
-  unfolding directLook
-  long-look j q st (Free k) = noted-length (st .results) j _ _
-  long-look j q st (Certain outcome) = noted-length (st .results) j _ _
-
-  long-kind : (j : ℕ) (st : State) (op : Operation) (x : Kind) → length (directKind d n choices j st op x .results) ≡ length (st .results)
-  unfolding directKind
-  long-kind j st op gate = refl
-  long-kind j st op (measures q) = long-look j q st (look d n (st .rows) q)
-
-  long-onward : (st : State) (count : ℕ) → length (onward (directStep d n ops [] choices) 0 st count .results) ≡ length (st .results)
-  unfolding onward directStep directStrike
-  long-onward st zero = refl
-  long-onward st (suc count) =
-      long-kind (measured ops (0 + count)) _ (opAt ops (0 + count)) (kind (opAt ops (0 + count))) ∙ long-onward st count
-
-  run-length : (st : State) → length (directRun d n ops [] choices st .results) ≡ length (st .results)
-  unfolding directRun directStrike
-  run-length st = long-onward st (length ops)
-
 -- the copied tableau
 module _ (n : ℕ) (t : List ℕ) (room : 2 * n * (2 * n + 1) ≤ length t) where
   abbrev copied : List ℕ
@@ -120,7 +96,7 @@ module _ {d n : ℕ} {tray t ops choices : List ℕ} (h : Ready d n tray t ops c
       let dim = dimension d (h .dimension) in
       let one = h .circuit .one-each in
       let told = low-run d n (omega (arith, dim .low)) (operationsOf d n ops) choices (h .circuit) (record { rows = part 0 (2 * n * (2 * n + 1)) t; results = blank (2 * measured (operationsOf d n ops) (length (operationsOf d n ops))) }) (omega (arith, blank-length (2 * measured (operationsOf d n ops) (length (operationsOf d n ops))))) in
-      let exact = run-length d n (operationsOf d n ops) choices (record { rows = part 0 (2 * n * (2 * n + 1)) t; results = blank (2 * measured (operationsOf d n ops) (length (operationsOf d n ops))) }) ∙ blank-length (2 * measured (operationsOf d n ops) (length (operationsOf d n ops))) in
+      let exact = direct-results d n (operationsOf d n ops) [] choices (record { rows = part 0 (2 * n * (2 * n + 1)) t; results = blank (2 * measured (operationsOf d n ops) (length (operationsOf d n ops))) }) ∙ blank-length (2 * measured (operationsOf d n ops) (length (operationsOf d n ops))) in
       record {
         setting = record { dimension = h .dimension; qudits = h .qudits; operations = h .circuit .operations; room = told .room; below = told .outcome };
         tableau = valid-tableau d n _ (run-keeps-valid d n dim (operationsOf d n ops) [] choices (h .circuit) _ copied-valid);
@@ -133,15 +109,10 @@ module _ {d n : ℕ} {tray t ops choices : List ℕ} (h : Ready d n tray t ops c
   pub loaded : Loaded d n tray
   loaded = record { lies = h .lies; strikes = λ i l. h .errors i l .strikes; shots = h .shots }
 
-  pub bodies : Bodies d n ops (take 0 ops) choices
-  unfolding errorsOf tab
-  bodies = record { dimension = h .dimension; qudits = h .qudits; lists = h .circuit }
-
   -- what the copy and its results hold after the clean run
-  module _ (copy₀ copy copy' results results' : List ℕ) (number place : ℕ) (size : length copy₀ ≡ 2 * n * (2 * n + 1)) (e : copy ≡ take (length copy₀) t)
+  module _ (copy₀ copy copy' results results' : List ℕ) (size : length copy₀ ≡ 2 * n * (2 * n + 1)) (e : copy ≡ take (length copy₀) t)
       (f : results ≡ blank (2 * length choices))
-      (g : record { number = number; place = place; tableau = copy'; results = results' }
-      ≡ directBodies d n ops (take 0 ops) choices (record { rows = copy; results = results })) where
+      (g : record { rows = copy'; results = results' } ≡ directRun d n (operationsOf d n ops) [] choices (record { rows = copy; results = results })) where
     abbrev clean : State
     clean = cleanRun d n (operationsOf d n ops) choices (part 0 (2 * n * (2 * n + 1)) t)
 
@@ -153,10 +124,7 @@ module _ {d n : ℕ} {tray t ops choices : List ℕ} (h : Ready d n tray t ops c
         (f ∙ ap (λ (x : ℕ). blank (2 * x)) (h .circuit .one-each))
 
     is-clean : _≡_ {A = State} (record { rows = copy'; results = results' }) clean
-    unfolding errorsOf tab
-    is-clean =
-        ap (λ (x : Left). let st : State = record { rows = x .tableau; results = x .results } in st) g
-        ∙ ap (λ (x : State). directRun d n (operationsOf d n ops) [] choices x) begins
+    is-clean = g ∙ ap (λ (x : State). directRun d n (operationsOf d n ops) [] choices x) begins
 
     pub fits-told : Fits d n ops results' copy' (1 + 2 * length choices)
     fits-told =

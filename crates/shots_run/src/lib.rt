@@ -32,12 +32,11 @@ fn run_in(
 {
     let size = copy.len();
     tableau::copy(copy, &t[..size]);
-    // no errors
-    direct::run(copy, results, ops, &ops[..0], choices, d, n);
+    clean::run(copy, results, ops, choices, d, n);
     blocks::fill(out, tray, ops, results, copy, 1 + 2 * choices.len(), d, n)
 }
 
-// The same with room for the copy and the clean results: the buffer holds what separate frame runs would fill it with.
+// Every shot, with room for the copy and the clean results: the buffer holds what separate frame runs would fill it with.
 pub fn run(
     out: &mut [u8],
     tray: &[u8],

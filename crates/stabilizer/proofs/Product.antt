@@ -130,7 +130,7 @@ factor d x y ρ σ P P' Q' H T T' B A A' ih cm =
     record { p = ih .p + x * cm .p; q = ih .q + x * cm .q; eq = omega (arith, ap (λ (z : ℕ). x * z) (cm .eq)) }
 
 module _ (d n N : ℕ) (g : ℕ → ℕ → ℕ) (r : ℕ → ℕ) (cmt : Commute d n N g) where
-  vec-commute : (h : ℕ → ℕ) (k j : ℕ) → k ≤ N → j < N → Cong d (half n (vec g h k) (g j)) (half n (g j) (vec g h k))
+  pub vec-commute : (h : ℕ → ℕ) (k j : ℕ) → k ≤ N → j < N → Cong d (half n (vec g h k) (g j)) (half n (g j) (vec g h k))
   vec-commute h k j lk lj =
       cong-trans (cong-eq d (half-vec-left n g h k (g j)))
       (cong-trans

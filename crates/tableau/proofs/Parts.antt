@@ -340,18 +340,6 @@ tableau-put d n t h i l ys r =
     by j k (yes e) = rw (e, row-put n t (h .room) i l ys (r .len)) r
     by j k (no e) = rw (row-other n t (h .room) i l ys (r .len) j e) (tableau-row d n t h j k)
 
--- so do rows put for all of them
-pub on-tableau :
-    (d n : ℕ) (f : ℕ → List ℕ → List ℕ) →
-    Keeps (2 * n + 1) f →
-    (t : List ℕ) →
-    Tableau d n t →
-    ((i : ℕ) → i < 2 * n → Row d n (f i (row n t i))) →
-    Tableau d n (onRows n f t)
-on-tableau d n f k t h r =
-    rows-tableau d n (onRows n f t) (omega (arith, on-length n f k t (h .room), h .room))
-    (λ i l. rw (on-at n f k t (h .room) i l) (r i l))
-
 -- a turn of a loop over the rows of a tableau: row i is there, and is a row
 module _
     (d n : ℕ) (f : ℕ → List ℕ → List ℕ) (k : Keeps (2 * n + 1) f) (t₀ : List ℕ) (h : Tableau d n t₀)

@@ -45,14 +45,3 @@ pub fn copy(dst: &mut [u8], src: &[u8])
         j += 1;
     }
 }
-
-// v becomes row i.
-pub fn copy_row(v: &mut [u8], t: &[u8], i: usize, n: usize)
-    requires { ⌜ (length (now v) ≡ 2 * n + 1) × (i * (2 * n + 1) + (2 * n + 1) ≤ length (now t)) ⌝ }
-    ensures { λ _. ⌜ now (v .exit) ≡ row n (now (t .entry)) i ⌝ }
-{
-    let w = 2 * n + 1;
-    let s = i * w;
-    let e = s + w;
-    copy(v, &t[s..e]);
-}

@@ -1,2 +1,2 @@
--- What other proofs use.
+-- What the proofs of several functions use.
 pub mod Tables

@@ -1,38 +1,80 @@
--- What a table of multiples holds.
+-- The three tables in their places are the tables of a run.
 -- Assumes nothing.
-use mathlib.Core.Path.{_≡_, sym, ap, _∙_}
+use mathlib.Core.Path.{_≡_, sym, ap, ap₂, _∙_}
 use mathlib.Core.List.{List}
-use Prim.Native.Nat.{ℕ, _+_, _-_, _*_, _%_, _<_}
-use native.Mathlib.Nat.{one-mul, zero-mul, mul-comm, zero-mod, add-mod-mod, mod-eq-of-lt}
+use Prim.Native.Nat.{ℕ, zero, suc, _+_, _-_, _*_, _/_, _%_, _<_, _≤_}
+use native.Mathlib.Nat.{mul-sub, mul-one, mul-le-mul, one-mul, zero-add}
 use native.Mathlib.Omega.{arith}
-use lib.ListN.{length, getD, replicate, length-replicate, getD-replicate}
-use lib.Seq.{ext-getD}
-use Rattle.modular.specs.Modular.{neg}
+use lib.ListN.{length, getD}
+use Rattle.modular.specs.Modular.{tri}
 use Rattle.row.specs.Row.{tab}
 use Rattle.row.specs.Fill.{multipleAt}
 use Rattle.row.proofs.Fill.{tab-length, tab-get}
+use Rattle.tableau.specs.Tableau.{put}
+use Rattle.tableau.proofs.Parts.{put-length, put-left, put-in}
+use Rattle.tables.specs.Tables.{Tables, productAt, triangleAt}
 
-module _ (d x m : ℕ) (t : List ℕ) (is : t ≡ tab (multipleAt d x) m) where
-  pub table-length : length t ≡ m
-  table-length = ap length is ∙ tab-length (multipleAt d x) m
+-- x(x − 1)/2 as the code makes it: x·x − x does not pass below 0
+pub triangle-made : (x : ℕ) → (x * x - x) / 2 ≡ tri x
+triangle-made x = ap (λ (z : ℕ). z / 2) (sym (mul-sub x x 1 ∙ ap (λ (z : ℕ). x * x - z) (mul-one x)))
 
-  pub table-at : (k : ℕ) → k < m → getD t k 0 ≡ x * k % d
-  table-at k l = ap (λ (z : List ℕ). getD z k 0) is ∙ tab-get (multipleAt d x) m k 0 l
+pub square-least : (x : ℕ) → x ≤ x * x
+square-least zero = omega arith
+square-least (suc k) = omega arith
 
-  pub table-times : (k : ℕ) → k < m → getD t k 0 ≡ k * x % d
-  table-times k l = table-at k l ∙ ap (λ (z : ℕ). z % d) (mul-comm x k)
+pub product-most : (x y : ℕ) → x < 32 → y < 32 → x * y ≤ 961
+product-most x y l m =
+    let a : x ≤ 31 = omega arith in
+    let b : y ≤ 31 = omega arith in
+    mul-le-mul a b
 
--- The multiples of 1 are the rests.
-pub rest-at : (d m : ℕ) (t : List ℕ) → t ≡ tab (multipleAt d 1) m → (k : ℕ) → k < m → getD t k 0 ≡ k % d
-rest-at d m t is k l = table-at d 1 m t is k l ∙ ap (λ (z : ℕ). z % d) (one-mul k)
+module _ (d : ℕ) (low : 3 ≤ d) (high : d ≤ 31) (t : List ℕ) (size : length t ≡ 1152) where
+  abbrev first : List ℕ
+  first = put 0 96 (tab (multipleAt d 1) 96) t
 
-pub rest-difference : (d x y : ℕ) → y < d → (x + (d - y)) % d ≡ (x + neg d y) % d
-rest-difference d x y l = sym (ap (λ (z : ℕ). (x + (d - z) % d) % d) (mod-eq-of-lt l) ∙ add-mod-mod x (d - y) d)
+  abbrev second : List ℕ
+  second = put 96 1024 (tab (productAt d) 1024) first
 
--- Zeros are the multiples of 0.
-pub zeros : (d m : ℕ) → replicate m 0 ≡ tab (multipleAt d 0) m
-zeros d m =
-    ext-getD 0 (replicate m 0) (tab (multipleAt d 0) m) (length-replicate m 0 ∙ sym (tab-length (multipleAt d 0) m))
-    (λ i l.
-    let k : i < m = omega (arith, length-replicate {A = ℕ} m 0) in
-    getD-replicate m i 0 0 k ∙ sym (tab-get (multipleAt d 0) m i 0 k ∙ ap (λ (z : ℕ). z % d) (zero-mul i) ∙ zero-mod d))
+  abbrev third : List ℕ
+  third = put 1120 32 (tab (triangleAt d) 32) second
+
+  first-length : length first ≡ 1152
+  first-length = put-length 0 96 _ t (omega arith) (tab-length (multipleAt d 1) 96) ∙ size
+
+  second-length : length second ≡ 1152
+  second-length = put-length 96 1024 _ first (omega (arith, first-length)) (tab-length (productAt d) 1024) ∙ first-length
+
+  third-left : (k : ℕ) → k < 1120 → getD third k 0 ≡ getD second k 0
+  third-left k l = put-left 1120 32 _ second (omega (arith, second-length)) (tab-length (triangleAt d) 32) k l
+
+  product-at : (x y : ℕ) → y < 32 → productAt d (x * 32 + y) ≡ x * y % d
+  product-at x y l =
+      let a : (x * 32 + y) / 32 ≡ x = omega arith in
+      let b : (x * 32 + y) % 32 ≡ y = omega arith in
+      ap₂ (λ (p q : ℕ). p * q % d) a b
+
+  pub tables-made : Tables d third
+  tables-made =
+      record {
+        low = low;
+        high = high;
+        size = put-length 1120 32 _ second (omega (arith, second-length)) (tab-length (triangleAt d) 32) ∙ second-length;
+        rests =
+            λ k l.
+            third-left k (omega arith)
+            ∙ put-left 96 1024 _ first (omega (arith, first-length)) (tab-length (productAt d) 1024) k l
+            ∙ ap (λ (z : ℕ). getD first z 0) (sym (zero-add k))
+            ∙ put-in 0 96 _ t (omega arith) (tab-length (multipleAt d 1) 96) k l
+            ∙ tab-get (multipleAt d 1) 96 k 0 l
+            ∙ ap (λ (z : ℕ). z % d) (one-mul k);
+        products =
+            λ x y l m.
+            third-left (96 + (x * 32 + y)) (omega arith)
+            ∙ put-in 96 1024 _ first (omega (arith, first-length)) (tab-length (productAt d) 1024) (x * 32 + y) (omega arith)
+            ∙ tab-get (productAt d) 1024 (x * 32 + y) 0 (omega arith)
+            ∙ product-at x y m;
+        triangles =
+            λ x l.
+            put-in 1120 32 _ second (omega (arith, second-length)) (tab-length (triangleAt d) 32) x l
+            ∙ tab-get (triangleAt d) 32 x 0 l;
+      }

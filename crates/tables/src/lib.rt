@@ -1,49 +1,100 @@
-// Arithmetic on single bytes by tables of multiples, which are made once for many rows.
+// Arithmetic modulo d on single bytes, by tables that are made once for a run.
 ghost use mathlib.Core.Path.{_≡_};
 ghost use Prim.Native.Nat.{_+_, _*_, _%_, _<_, _≤_};
-ghost use lib.ListN.{length, getD};
-ghost use Rattle.modular.specs.Modular.{neg};
+ghost use lib.ListN.{length};
+ghost use Rattle.modular.specs.Modular.{neg, tri, Reciprocal};
 ghost use Rattle.row.specs.Row.{tab};
-ghost use Rattle.row.specs.Fill.{multipleAt};
+ghost use Rattle.tables.specs.Tables.{Tables, productAt, triangleAt};
 
-pub fn entry(table: &[u8], k: u8) -> u8
-    requires { ⌜ k < length (now table) ⌝ }
-    ensures { λ r. ⌜ r ≡ getD (now (table .entry)) k 0 ⌝ }
+// The rest of k. Here, in sums and in products d only says which tables they are.
+fn rest(tables: &[u8], d: u8, k: usize) -> u8
+    requires { ⌜ Tables d (now tables)
+        × (k < 96) ⌝ }
+    ensures { λ r. ⌜ r ≡ k % d ⌝ }
 {
-    table[k as usize]
+    tables[k]
 }
 
-// x + y, by the rests, which are the multiples of 1. In both sums d only says which table it is.
-pub fn sum_of(rests: &[u8], d: u8, x: u8, y: u8) -> u8
-    requires { ⌜ (now rests ≡ tab (multipleAt d 1) 64) × (d ≤ 31) × (x < d) × (y < d) ⌝ }
+// x + y
+pub fn sum(tables: &[u8], d: u8, x: u8, y: u8) -> u8
+    requires { ⌜ Tables d (now tables)
+        × (x < d)
+        × (y < d) ⌝ }
     ensures { λ r. ⌜ r ≡ (x + y) % d ⌝ }
 {
-    rests[x as usize + y as usize]
+    rest(tables, d, x as usize + y as usize)
 }
 
-// x + y + z, in the same way
-pub fn sum_of_three(rests: &[u8], d: u8, x: u8, y: u8, z: u8) -> u8
-    requires { ⌜ (now rests ≡ tab (multipleAt d 1) 96) × (d ≤ 31) × (x < d) × (y < d) × (z < d) ⌝ }
+// x + y + z
+pub fn sum_of_three(tables: &[u8], d: u8, x: u8, y: u8, z: u8) -> u8
+    requires { ⌜ Tables d (now tables)
+        × (x < d)
+        × (y < d)
+        × (z < d) ⌝ }
     ensures { λ r. ⌜ r ≡ (x + y + z) % d ⌝ }
 {
-    rests[x as usize + y as usize + z as usize]
+    rest(tables, d, x as usize + y as usize + z as usize)
 }
 
-// x − y, in the same way
-pub fn difference_of(rests: &[u8], d: u8, x: u8, y: u8) -> u8
-    requires { ⌜ (now rests ≡ tab (multipleAt d 1) 64) × (d ≤ 31) × (x < d) × (y < d) ⌝ }
+// x − y
+pub fn difference(tables: &[u8], d: u8, x: u8, y: u8) -> u8
+    requires { ⌜ Tables d (now tables)
+        × (x < d)
+        × (y < d) ⌝ }
     ensures { λ r. ⌜ r ≡ (x + neg d y) % d ⌝ }
 {
-    rests[x as usize + (d - y) as usize]
+    rest(tables, d, x as usize + (d - y) as usize)
 }
 
-// The multiples of x in place of zeros, which are those of 0 already.
-pub fn make_table(table: &mut [u8], x: u8, d: u8)
-    requires { ⌜ (3 ≤ d) × (d ≤ 31) × (length (now table) ≤ 96) × (x * length (now table) < 2048) × (now table ≡ tab (multipleAt d 0) (length (now table))) ⌝ }
-    ensures { λ _. ⌜ now (table .exit) ≡ tab (multipleAt d x) (length (now (table .entry))) ⌝ }
+// x·y, x at most d
+pub fn product(tables: &[u8], d: u8, x: u8, y: u8) -> u8
+    requires { ⌜ Tables d (now tables)
+        × (x ≤ d)
+        × (y < d) ⌝ }
+    ensures { λ r. ⌜ r ≡ x * y % d ⌝ }
 {
-    if x != 0 {
-        let m = modular::reciprocal(d);
-        row::multiples(table, x, d, m);
+    tables[96 + (x as usize * 32 + y as usize)]
+}
+
+// x(x − 1)/2
+pub fn triangle(tables: &[u8], d: u8, x: u8) -> u8
+    requires { ⌜ Tables d (now tables)
+        × (x < d) ⌝ }
+    ensures { λ r. ⌜ r ≡ tri x % d ⌝ }
+{
+    tables[1120 + x as usize]
+}
+
+fn make_products(products: &mut [u8], d: u8, m: u16)
+    requires { ⌜ (length (now products) ≡ 1024)
+        × Reciprocal d m ⌝ }
+    ensures { λ _. ⌜ now (products .exit) ≡ tab (productAt d) 1024 ⌝ }
+{
+    for k in 0..1024 {
+        products[k] = modular::reduce((k / 32) as u16 * (k % 32) as u16, d, m);
     }
+}
+
+fn make_triangles(triangles: &mut [u8], d: u8, m: u16)
+    requires { ⌜ (length (now triangles) ≡ 32)
+        × Reciprocal d m ⌝ }
+    ensures { λ _. ⌜ now (triangles .exit) ≡ tab (triangleAt d) 32 ⌝ }
+{
+    for k in 0..32 {
+        let x = k as u16;
+        triangles[k] = modular::reduce((x * x - x) / 2, d, m);
+    }
+}
+
+// All tables of dimension d.
+pub fn make(tables: &mut [u8], d: u8)
+    requires { ⌜ (3 ≤ d)
+        × (d ≤ 31)
+        × (length (now tables) ≡ 1152) ⌝ }
+    ensures { λ _. ⌜ Tables d (now (tables .exit)) ⌝ }
+{
+    let m = modular::reciprocal(d);
+    row::multiples(&mut tables[0..96], 1, d, m);
+    make_products(&mut tables[96..1120], d, m);
+    make_triangles(&mut tables[1120..1152], d, m);
 }

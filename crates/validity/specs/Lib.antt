@@ -1,1 +1,2 @@
 pub mod Validity
+pub mod Columns

@@ -1,3 +1,2 @@
 pub mod Scalar
 pub mod Laws
-pub mod Even

@@ -14,11 +14,24 @@ pub enum Mix {
     Gates,
     /// Multipliers alone. Each takes an inverse, and in a frame run two.
     Multipliers,
-    /// 1,024 times three gates and the measurement of one of the last eight qudits. It is free: the
-    /// set had Z on that qudit since it was last measured, and Fourier makes this X.
+    /// 1,024 times three gates and the measurement of one of the last eight qudits, or of the last
+    /// four where there are eight in all. It is free: the set had Z on that qudit since it was last
+    /// measured, and Fourier makes this X.
     Measuring,
     /// Measurements alone, so that there are 4,096 choices: the longest book.
     Measurements,
+}
+
+impl Mix {
+    pub fn name(self) -> &'static str {
+        match self {
+            Mix::Mixed => "mixed",
+            Mix::Gates => "gates",
+            Mix::Multipliers => "multipliers",
+            Mix::Measuring => "measuring",
+            Mix::Measurements => "measurements",
+        }
+    }
 }
 
 /// A book of 4,096 operations and 2,048 errors, one before every second operation.
@@ -69,8 +82,10 @@ fn multiplier(rng: &mut Rng, d: u8, n: u8) -> Operation {
 
 /// Adds operation k of a measuring book: a gate on the other qudits, CZ, Fourier, measurement.
 fn measuring(rng: &mut Rng, k: usize, book: &mut Book) {
-    let (d, others) = (book.dimension(), book.qudits() - 8);
-    let q = others + (k / 4 % 8) as u8;
+    let (d, n) = (book.dimension(), book.qudits());
+    let measured = 8.min(n / 2);
+    let others = n - measured;
+    let q = others + (k / 4 % usize::from(measured)) as u8;
     match k % 4 {
         0 => book.operation(draw_gate(rng, d, others)),
         1 => book.operation(Operation::Cz {

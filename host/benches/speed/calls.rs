@@ -2,7 +2,7 @@
 
 use crate::common::frames::Buffers;
 use crate::common::{UNWRITTEN, plain, slices};
-use crate::tuned;
+use crate::tuned::{self, Even, Phases, Specified};
 use cagvost::Refusal;
 use cagvost::book::Book;
 
@@ -50,45 +50,58 @@ pub type Told = (usize, usize, usize);
 
 pub type Call = fn(&Job, &mut Lent) -> Told;
 
-/// The same call by Cagvost, by the tuned Rust and by the plain Rust.
-pub type Columns = [Call; 3];
+/// The same call by Cagvost, by the tuned Rust and by the plain Rust. A run is also made by the tuned
+/// Rust with even phases.
+pub type Columns<const N: usize> = [Call; N];
 
-pub const TEST: Columns = [
+/// The places of the columns.
+pub const CAGVOST: usize = 0;
+pub const TUNED: usize = 1;
+pub const PLAIN: usize = 2;
+pub const EVEN: usize = 3;
+
+pub const TEST: Columns<3> = [
     |job, lent| numbers(cagvost::test_tableau(&lent.run.tableau, job.d, job.n).map(|()| 0)),
     |job, lent| widen(tuned::test(&lent.run.tableau, job.d, job.n)),
     |job, lent| widen(plain::test(&lent.run.tableau, job.d, job.n)),
 ];
 
-pub const DIRECT: Columns = [
+pub const DIRECT: Columns<4> = [
     |job, Lent { run, .. }| {
         let told = cagvost::direct_run(&job.book, &mut run.tableau, &mut run.results);
         numbers(told)
     },
-    |job, Lent { run, .. }| {
-        let told = tuned::direct_run(&job.book, &mut run.tableau, &mut run.results);
-        widen(told)
-    },
+    tuned_direct::<Specified>,
     |job, Lent { run, .. }| {
         let told = plain::direct_run(&job.book, &mut run.tableau, &mut run.results);
         widen(told)
     },
+    tuned_direct::<Even>,
 ];
 
-pub const FRAME: Columns = [
+pub const FRAME: Columns<4> = [
     |job, lent| lent.run.by_library(&job.book),
-    |job, Lent { run, .. }| {
-        tuned::frame_run(
-            &job.book,
-            &mut run.tableau,
-            &mut run.results,
-            &mut run.shifts,
-            &mut run.frame,
-        )
-    },
+    tuned_frame::<Specified>,
     |job, lent| lent.run.by_plain(&job.book),
+    tuned_frame::<Even>,
 ];
 
-pub const WRITE: Columns = [
+fn tuned_direct<P: Phases>(job: &Job, Lent { run, .. }: &mut Lent) -> Told {
+    let told = tuned::direct_run::<P>(&job.book, &mut run.tableau, &mut run.results);
+    widen(told)
+}
+
+fn tuned_frame<P: Phases>(job: &Job, Lent { run, .. }: &mut Lent) -> Told {
+    tuned::frame_run::<P>(
+        &job.book,
+        &mut run.tableau,
+        &mut run.results,
+        &mut run.shifts,
+        &mut run.frame,
+    )
+}
+
+pub const WRITE: Columns<3> = [
     |job, lent| {
         let [operations, errors, choices] = slices(&job.bodies);
         let (d, n, out) = (job.d, job.n, &mut lent.written);

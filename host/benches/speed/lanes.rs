@@ -1,8 +1,8 @@
 //! The fastest safe Rust that we could write for the tray run: the frames of 256 shots side by side,
 //! so that a gate is one loop over arrays that the compiler turns into vectors.
 //!
-//! - The circuit is run once without errors, by `tuned.rs`. A shot has its results, raised by its
-//!   frame; one without errors has them as they are and takes no lane.
+//! - The circuit is run once without errors, by `tuned.rs` with the specification's phases. A shot
+//!   has its results, raised by its frame; one without errors has them as they are and takes no lane.
 //! - For every place there is a linked list of the lanes whose next error is there. The library
 //!   keeps lists for 256 places at a time instead, which are easier to prove and somewhat slower.
 //! - Results are gathered in tiles of 64 measurements by 256 lanes, and turned by shuffles of whole
@@ -12,7 +12,7 @@
 //!   twice as long.
 
 use crate::tuned::{
-    Book, Modulo, Told, add, dot, is_valid, read, run_rows, tableau_len, two_bytes,
+    Book, Modulo, Specified, Told, add, dot, is_valid, read, run_rows, tableau_len, two_bytes,
 };
 use cagvost::book::MAX_OPERATIONS;
 
@@ -350,7 +350,7 @@ fn start<'a>(
     }
     let (mut rows, modulo) = (rows.to_vec(), Modulo::new(book.d));
     book.errors = &[];
-    run_rows(&book, &mut rows, &mut results, &modulo);
+    run_rows::<Specified>(&book, &mut rows, &mut results, &modulo);
     Ok(Circuit {
         book,
         tray,

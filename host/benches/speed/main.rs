@@ -1,8 +1,10 @@
-//! Times the package's calls beside the same calls in Rust: `cargo bench` in this package, or
-//! `cargo bench -- trays` for the tray runs alone.
+//! Times the package's calls beside the same calls in Rust: `cargo bench` in this package,
+//! `cargo bench -- quick` for few sizes and no trays, or `cargo bench -- trays` for the tray runs
+//! alone.
 //!
 //! The columns are the package, (b) the fastest safe Rust that we could write (`tuned.rs`, and
-//! `lanes.rs` for trays) and (a) the specification with `%` and no thought of speed
+//! `lanes.rs` for trays), for runs the same with even phases, which shows what it costs to keep the
+//! specification's in the rows, and (a) the specification with `%` and no thought of speed
 //! (`tests/common/plain.rs`). All run in this process and must agree in every number and byte.
 
 mod books;
@@ -16,7 +18,7 @@ mod tuned;
 
 use books::{Mix, certain_tableau, dense_tableau};
 use cagvost::book::{Book, Operation};
-use calls::{Columns, DIRECT, FRAME, Job, TEST, WRITE};
+use calls::{CAGVOST, Columns, DIRECT, FRAME, Job, PLAIN, TEST, TUNED, WRITE};
 use common::zero_tableau;
 use std::thread;
 use std::time::{Duration, Instant};
@@ -25,11 +27,29 @@ use timing::{Unit, compare, head, leaves, line, take, take_beyond};
 const DIMENSIONS: [u8; 3] = [3, 5, 31];
 const QUDITS: u8 = 64;
 
-const RUNS: [(&str, Columns); 2] = [("direct", DIRECT), ("frame", FRAME)];
+const RUNS: [(&str, Columns<4>); 2] = [("direct", DIRECT), ("frame", FRAME)];
+
+/// Frame runs of full books are timed on so many qudits, direct ones on all that are listed.
+const FRAME_QUDITS: [u8; 2] = [8, QUDITS];
+
+/// The sizes that are timed.
+struct Sizes {
+    dimensions: &'static [u8],
+    qudits: &'static [u8],
+}
+
+const ALL: Sizes = Sizes {
+    dimensions: &DIMENSIONS,
+    qudits: &[8, 16, 32, QUDITS],
+};
+
+const FEW: Sizes = Sizes {
+    dimensions: &[3, 31],
+    qudits: &[8, QUDITS],
+};
 
 /// How long the columns of a line take turns.
-const FULL_BOOK: Duration = Duration::from_millis(1300);
-const GROWTH: Duration = Duration::from_millis(600);
+const FULL_BOOK: Duration = Duration::from_millis(800);
 const SINGLE: Duration = Duration::from_millis(400);
 
 fn main() {
@@ -40,31 +60,37 @@ fn main() {
         return;
     }
     let begin = Instant::now();
+    let (quick, trays) = (is_given("quick"), is_given("trays"));
     preface();
-    if !is_given("trays") {
-        single_errors();
-        full_books();
-        growth();
-        single_operations();
+    if !trays {
+        runs(if quick { &FEW } else { &ALL });
+    }
+    if !trays && !quick {
+        multipliers();
         writing();
     }
-    trays::trays();
+    if !quick {
+        trays::trays();
+    }
     small_stack();
     println!("\nAll of it took {:.0} s.", begin.elapsed().as_secs_f64());
 }
 
+const PREFACE: &str = "\
+Cagvost beside the same calls in Rust, all in this process.
+The columns take turns round by round, (a) in one round of five or fewer. Before each call the
+buffers are refilled by a copy, and after it every number and byte is compared; neither is timed.
+Given are the least and the median time over the rounds, and the ratios of both; where they differ
+much, the machine was busy. Every run reads and checks its book and tests its tableau.
+(b) is the fastest safe Rust on rows that we could write. As Cagvost does, it keeps the
+specification's phase in every row, from the first step of a run to the last. The column of even
+phases is this Rust with another phase in the rows, r less half of the sum of a·b, which takes less
+work: (b)/even is what it costs to keep the specification's. (a) has no thought of speed.";
+
 fn preface() {
-    println!("Cagvost beside the same calls in Rust, all in this process.");
-    println!("The columns take turns round by round, (a) in one round of five. Before each call");
-    println!("the buffers are refilled by a copy, and after it every number and byte is compared;");
-    println!("neither is timed. Given are the least and the median time over the rounds, and the");
-    println!("ratios of both; where they differ much, the machine was busy.");
-    println!("Every run reads and checks its book and tests its tableau.");
-    println!(
-        "(b) is the fastest safe Rust on rows that we could write, (a) has no thought of speed."
-    );
+    println!("{PREFACE}");
     if cfg!(target_feature = "avx2") {
-        println!("Beware: (a) and (b) were compiled for AVX2, which Cagvost does not use.");
+        println!("Beware: the Rust columns were compiled for AVX2, which Cagvost does not use.");
     }
 }
 
@@ -86,63 +112,65 @@ fn full_job(mix: Mix, d: u8, n: u8) -> Job {
 
 /// How many measurements of a job are free, and how many are certain.
 fn kinds(job: &Job) -> (usize, usize) {
-    let results = leaves(job, DIRECT[1]).1.run.results;
+    let results = leaves(job, DIRECT[TUNED]).1.run.results;
     let marks = results.chunks_exact(2).map(|result| result[1]);
     let free = marks.filter(|&mark| mark == 1).count();
     (free, results.len() / 2 - free)
 }
 
-fn full_books() {
+fn runs(sizes: &Sizes) {
+    single_errors();
+    full_books(sizes);
+    single_operations(sizes);
+}
+
+fn full_books(sizes: &Sizes) {
     head(
-        "Full books: 64 qudits, 4,096 operations, 2,048 errors, from a dense tableau.",
+        "Full books: 4,096 operations, 2,048 errors, from a dense tableau. f: free measurements, c: \
+         certain ones.",
         "µs per call",
     );
-    let mixes = [
-        (Mix::Mixed, "mixed"),
-        (Mix::Gates, "gates"),
-        (Mix::Multipliers, "multipliers"),
-        (Mix::Measuring, "measuring"),
-    ];
-    for (mix, name) in mixes {
-        for d in DIMENSIONS {
-            let job = full_job(mix, d, QUDITS);
-            let (free, certain) = kinds(&job);
-            for (run, columns) in RUNS {
-                let label = format!("{run:<6} d {d:<2} {name:<11} {free:>4} f {certain:>3} c");
-                let times = take(&job, &columns, FULL_BOOK);
-                line(&label, Unit::MicrosPerCall, &times);
+    for mix in [Mix::Mixed, Mix::Gates, Mix::Measuring] {
+        for &n in sizes.qudits {
+            for &d in sizes.dimensions {
+                full_book(mix, d, n);
             }
         }
     }
-    println!("f: free measurements, c: certain ones");
 }
 
-fn growth() {
-    head(
-        "Growth with n: mixed books of 4,096 operations and 2,048 errors, d = 5.",
-        "µs per call",
-    );
-    for (run, columns) in RUNS {
-        let mut before = None;
-        let mut factors = Vec::new();
-        for n in [8, 16, 32, 64] {
-            let times = take(&full_job(Mix::Mixed, 5, n), &columns, GROWTH);
-            line(&format!("{run:<6} n {n}"), Unit::MicrosPerCall, &times);
-            let least = times.least[0];
-            factors.extend(before.map(|before: f64| format!("{:.2}", least / before)));
-            before = Some(least);
-        }
-        println!("Cagvost from n to 2n: times {}", factors.join(", "));
+fn full_book(mix: Mix, d: u8, n: u8) {
+    let job = full_job(mix, d, n);
+    let (free, certain) = kinds(&job);
+    let name = mix.name();
+    let runs = if FRAME_QUDITS.contains(&n) {
+        &RUNS
+    } else {
+        &RUNS[..1]
+    };
+    for (run, columns) in runs {
+        let label = format!("{run:<6} {name:<11} n {n:<2} d {d:<2} {free:>4} f {certain:>3} c");
+        line(&label, Unit::MicrosPerCall, &take(&job, columns, FULL_BOOK));
     }
 }
 
-fn single_operations() {
+fn multipliers() {
+    head(
+        "Full books of multipliers alone: 4,096 of them, 2,048 errors.",
+        "µs per call",
+    );
+    for d in DIMENSIONS {
+        full_book(Mix::Multipliers, d, QUDITS);
+    }
+}
+
+fn single_operations(sizes: &Sizes) {
     head(
         "Single operations on 64 qudits, by direct runs of books that repeat one. A run without \
          entries,\ngiven last, is subtracted: it has read the book, tested the tableau and no more.",
         "ns per operation",
     );
-    for d in DIMENSIONS {
+    for &d in sizes.dimensions {
         let dense = dense_tableau(d, QUDITS);
         let idle = Job::new(&Book::new(d, QUDITS), dense.clone());
         for (name, gate) in gates() {
@@ -153,13 +181,17 @@ fn single_operations() {
         let job = Job::new(&books::of_one_error(d, QUDITS), dense.clone());
         single(&format!("d {d:<2} error, of 2,048"), 2048, &job, &idle);
         measurements(d, dense, &idle);
-        for (name, columns) in [
-            ("run without entries", DIRECT),
-            ("test, all pairings", TEST),
-        ] {
-            let times = take(&idle, &columns, SINGLE);
-            line(&format!("d {d:<2} {name}"), Unit::NanosPer(1), &times);
-        }
+        let times = take(&idle, &DIRECT, SINGLE);
+        line(
+            &format!("d {d:<2} run without entries"),
+            Unit::NanosPer(1),
+            &times,
+        );
+        line(
+            &format!("d {d:<2} test, all pairings"),
+            Unit::NanosPer(1),
+            &take(&idle, &TEST, SINGLE),
+        );
     }
 }
 
@@ -197,13 +229,13 @@ fn writing() {
         "Writing a full book: 64 qudits, 4,096 operations, 2,048 errors.",
         "µs per call",
     );
-    let mixes = [(Mix::Mixed, "mixed"), (Mix::Measurements, "measurements")];
-    for (mix, name) in mixes {
+    for mix in [Mix::Mixed, Mix::Measurements] {
         for d in DIMENSIONS {
+            let name = mix.name();
             // The writer takes no tableau.
             let job = Job::new(&books::full(mix, d, QUDITS), Vec::new());
             let label = format!("write  d {d:<2} {name:<12} {} B", job.book.len());
-            let times = take(&job, &WRITE, FULL_BOOK);
+            let times = take(&job, &WRITE, SINGLE);
             line(&label, Unit::MicrosPerCall, &times);
         }
     }
@@ -216,10 +248,10 @@ fn small_stack() {
     for (run, columns) in RUNS {
         let left = thread::scope(|scope| {
             let small = thread::Builder::new().stack_size(256 * 1024);
-            let thread = small.spawn_scoped(scope, || leaves(&job, columns[0]));
+            let thread = small.spawn_scoped(scope, || leaves(&job, columns[CAGVOST]));
             thread.expect("a thread").join().expect("no panic")
         });
-        assert!(left == leaves(&job, columns[2]), "{run} run");
+        assert!(left == leaves(&job, columns[PLAIN]), "{run} run");
         println!("Stack: a full {run} run by Cagvost worked in a thread with 256 KiB of it.");
     }
 }

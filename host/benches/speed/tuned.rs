@@ -1,22 +1,27 @@
 //! The fastest safe Rust that we could write for the same calls, on the same row-major bytes, with
 //! d and n known at run time only.
 //!
-//! What it has in common with the library:
-//! - *Even phases.* From entry to exit a row's last byte holds r − ½ Σ a·b. It simply adds under
-//!   products of rows that commute, so a sweep adds whole rows, and of the gates only the phase gate
-//!   moves it. This leans on the tableau's validity, which each run has tested.
-//! - Additions by an unsigned minimum, all multiples of the pivot made once, half of the pairings.
-//! - Tables of rests and products for single bytes: what walks down a column of a row-major tableau
-//!   is not vectorised, and a look-up is cheaper there than arithmetic.
-//! - The rows that a free measurement changes are listed first, without a branch.
-//! - A certain outcome is one sum of powers times phases, reduced once.
+//! A run is made of what is here and of what depends on the phases that it keeps in its rows
+//! ([`Phases`]): `specified.rs` keeps the specification's, as the library does, and `even.rs` others
+//! that take less work.
 //!
-//! What it does beyond that:
-//! - The tables are made once for each run, one of all inverses with them.
-//! - Pairings are made of powers from −15 to 15, so that their sums fit 16 bits with a sign, two at
-//!   a time, and tested for divisibility without a division.
+//! - Additions by an unsigned minimum, all powers of the pivot made once, block by block.
+//! - Tables of rests, products, inverses and triangle numbers for single bytes, made once for each
+//!   run: what walks down a column of a row-major tableau is not vectorised, and a look-up is
+//!   cheaper there than arithmetic. They are as long as it takes for a byte to need no check.
+//! - The rows that a free measurement changes are listed first, without a branch. The two that it
+//!   overwrites are not among them.
+//! - A gate on the frame works on the powers alone.
+//! - Half of the pairings, made of powers from −15 to 15, so that their sums fit 16 bits with a
+//!   sign, two at a time, and tested for divisibility without a division.
 //! - Operations and choices are tested without a branch, several at a time. If one is bad, they are
 //!   gone through again to find the first.
+
+mod even;
+mod specified;
+
+pub use even::Even;
+pub use specified::Specified;
 
 /// A returned number and its place.
 pub type Told = (usize, usize);
@@ -31,17 +36,25 @@ pub fn add(d: u8, x: u8, y: u8) -> u8 {
     sum.min(sum.wrapping_sub(d))
 }
 
-/// Arithmetic on single bytes by tables. Indices of eight and of five bits need no check.
+/// What a byte is looked up in.
+type Table = [u8; 256];
+
+/// The products, from place 32·x on those of x. Two bytes never lead past the end.
+type Products = [u8; 32 * 255 + 256];
+
+/// Arithmetic on single bytes by tables. What they hold for numbers not named has no meaning.
 pub struct Modulo {
     pub d: u8,
-    /// 65536/d.
-    reciprocal: u16,
+    /// Above 2^32/d by at most 1.
+    reciprocal: u64,
     /// The rest of each sum of four numbers below d, and of each difference of two, wrapped.
-    rests: [u8; 256],
-    /// Each product.
-    products: [[u8; 32]; 32],
-    /// The inverse of each number but 0.
-    inverses: [u8; 32],
+    rests: Table,
+    /// Of numbers below d.
+    products: Products,
+    /// Of numbers from 1 to d − 1.
+    inverses: Table,
+    /// x(x−1)/2 for numbers x below d.
+    triangles: Table,
 }
 
 impl Modulo {
@@ -54,19 +67,14 @@ impl Modulo {
                 _ => i % d,
             };
         }
-        let mut products = [[0; 32]; 32];
-        for x in 1..usize::from(d) {
-            let line = products[x - 1];
-            for (y, (product, before)) in (0..).zip(products[x].iter_mut().zip(line)) {
-                *product = add(d, before, y);
-            }
-        }
+        let products = products(d);
         Modulo {
             d,
-            reciprocal: (65536 / u32::from(d)) as u16,
+            reciprocal: (1 << 32) / u64::from(d) + 1,
             rests,
             products,
             inverses: inverses(d, &products),
+            triangles: triangles(d),
         }
     }
 
@@ -75,16 +83,22 @@ impl Modulo {
         self.rests[usize::from(x)]
     }
 
-    /// The rest of a sum of products. The quotient is found by a product and is at most 1 too low.
-    pub fn reduce(&self, x: u16) -> u8 {
-        let quotient = (u32::from(x) * u32::from(self.reciprocal)) >> 16;
-        let rest = (x - quotient as u16 * u16::from(self.d)) as u8;
-        rest.min(rest.wrapping_sub(self.d))
+    /// The rest of a sum of products below 2^27. The quotient is found by a product: that of x and
+    /// the reciprocal is too high by at most x, which is less than 2^32/d.
+    pub fn reduce(&self, x: u32) -> u8 {
+        let quotient = (u64::from(x) * self.reciprocal) >> 32;
+        (x - quotient as u32 * u32::from(self.d)) as u8
+    }
+
+    fn product(&self, x: u8, y: u8) -> u8 {
+        product(&self.products, x, y)
     }
 
     /// x times each number.
-    fn times(&self, x: u8) -> &[u8; 32] {
-        &self.products[usize::from(x & 31)]
+    fn times(&self, x: u8) -> &Table {
+        let from = &self.products[32 * usize::from(x)..];
+        from.first_chunk()
+            .expect("two bytes do not lead past the end")
     }
 
     pub fn inverse(&self, u: u8) -> u8 {
@@ -92,66 +106,83 @@ impl Modulo {
     }
 }
 
+/// All products, those of x by those of x − 1.
+fn products(d: u8) -> Products {
+    let mut products = [0; _];
+    for x in 1..usize::from(d) {
+        for y in 0..d {
+            let at = 32 * x + usize::from(y);
+            products[at] = add(d, products[at - 32], y);
+        }
+    }
+    products
+}
+
+fn product(products: &Products, x: u8, y: u8) -> u8 {
+    products[32 * usize::from(x) + usize::from(y)]
+}
+
 /// The inverse of each number, by that of a smaller one: as d is (d/x)·x and a rest, −(d/x) times x
 /// leaves that rest.
-fn inverses(d: u8, products: &[[u8; 32]; 32]) -> [u8; 32] {
-    let mut inverses = [0; 32];
+fn inverses(d: u8, products: &Products) -> Table {
+    let mut inverses = [0; 256];
     inverses[1] = 1;
     for x in 2..d {
-        let smaller = inverses[usize::from(d % x)];
-        inverses[usize::from(x)] = look_up(&products[usize::from(d - d / x)], smaller);
+        let smaller = look_up(&inverses, d % x);
+        inverses[usize::from(x)] = product(products, d - d / x, smaller);
     }
     inverses
 }
 
-/// The entry of a line of products.
-fn look_up(line: &[u8; 32], x: u8) -> u8 {
-    line[usize::from(x & 31)]
+/// x(x−1)/2 for each number x, which is that for x − 1 and x − 1.
+fn triangles(d: u8) -> Table {
+    let mut triangles = [0; 256];
+    for x in 1..d {
+        triangles[usize::from(x)] = add(d, look_up(&triangles, x - 1), x - 1);
+    }
+    triangles
+}
+
+fn look_up(table: &Table, x: u8) -> u8 {
+    table[usize::from(x)]
 }
 
 // ---- Rows
 
-/// A row with its end padded, in blocks of one vector each.
-type Blocks = [[u8; 16]; 9];
+/// The powers of a row with their end padded, in blocks of one vector each.
+type Blocks = [[u8; 16]; 8];
 
-/// x + y, place by place.
-fn sum_blocks(d: u8, x: &Blocks, y: &Blocks) -> Blocks {
-    let mut z = *x;
-    for (z, y) in z.iter_mut().zip(y) {
-        for (z, &y) in z.iter_mut().zip(y) {
-            *z = add(d, *z, y);
-        }
+/// The powers of a row gain others, block by block.
+#[inline(always)]
+fn gain_blocks(d: u8, powers: &mut [u8], others: &Blocks) {
+    let (blocks, rest) = powers.as_chunks_mut::<16>();
+    let mut others = others.iter();
+    for (block, other) in blocks.iter_mut().zip(&mut others) {
+        gain(d, block, other);
     }
-    z
+    if let Some(other) = others.next() {
+        gain(d, rest, other);
+    }
 }
 
-/// The row gains the blocks, place by place.
-fn gain(d: u8, row: &mut [u8], blocks: &Blocks) {
-    let mut parts = row.chunks_exact_mut(16);
-    let mut blocks = blocks.iter();
-    for (part, block) in (&mut parts).zip(&mut blocks) {
-        for (x, &y) in part.iter_mut().zip(block) {
-            *x = add(d, *x, y);
-        }
-    }
-    let rest = blocks.next().into_iter().flatten();
-    for (x, &y) in parts.into_remainder().iter_mut().zip(rest) {
+/// x + y in place of x, place by place.
+#[inline(always)]
+fn gain(d: u8, x: &mut [u8], y: &[u8]) {
+    for (x, &y) in x.iter_mut().zip(y) {
         *x = add(d, *x, y);
     }
 }
 
-/// Σ x·y.
-pub fn dot(x: &[u8], y: &[u8]) -> u16 {
-    let products = x.iter().zip(y);
-    products.map(|(&x, &y)| u16::from(x) * u16::from(y)).sum()
+/// Σ x·y, at most 64·30·30.
+#[inline(always)]
+pub fn dot<T: Copy + Into<u16>>(x: &[u8], y: &[T]) -> u32 {
+    let products = x.iter().zip(y).map(|(&x, &y)| u16::from(x) * y.into());
+    products.sum::<u16>().into()
 }
 
-/// Adds x·Σ a·b to each row's phase.
-fn turn_phases(rows: &mut [u8], n: usize, x: u8, m: &Modulo) {
-    for row in rows.chunks_exact_mut(2 * n + 1) {
-        let own = m.reduce(dot(&row[..n], &row[n..2 * n]));
-        row[2 * n] = m.rest(row[2 * n].wrapping_add(look_up(m.times(x), own)));
-    }
+/// Σ a·b of a row.
+fn own_dot(row: &[u8], n: usize) -> u32 {
+    dot(&row[..n], &row[n..2 * n])
 }
 
 /// Powers as the numbers nearest to 0 that leave the same rest: from −15 to 15.
@@ -236,28 +267,33 @@ pub fn is_valid(d: u8, n: usize, tableau: &[u8]) -> bool {
     })
 }
 
+// ---- Phases
+
+/// What the last byte of each row holds during a run, and all that depends on it.
+pub trait Phases {
+    /// Puts these phases in place of the specification's.
+    fn enter(rows: &mut [u8], n: usize, m: &Modulo);
+
+    /// Puts the specification's back.
+    fn leave(rows: &mut [u8], n: usize, m: &Modulo);
+
+    fn fourier(rows: &mut [u8], n: usize, q: usize, m: &Modulo);
+
+    fn phase_gate(rows: &mut [u8], n: usize, q: usize, m: &Modulo);
+
+    fn cz(rows: &mut [u8], n: usize, pair: (usize, usize), m: &Modulo);
+
+    /// The outcome that the weighted product of the stabilizers fixes.
+    fn certain(rows: &[u8], n: usize, q: usize, m: &Modulo) -> u8;
+
+    /// Multiplies rows by powers of the pivot: the number of each row is listed with its exponent.
+    fn sweep(rows: &mut [u8], n: usize, listed: &[(u8, u8)], pivot: &Pivot, m: &Modulo);
+
+    /// The phase of power h of the pivot.
+    fn phase_of_power(h: u8, n: usize, pivot: &Pivot, m: &Modulo) -> u8;
+}
+
 // ---- Gates and errors on every row
-
-fn fourier(rows: &mut [u8], n: usize, q: usize, m: &Modulo) {
-    let (w, z) = (2 * n + 1, n + q);
-    assert!(q < w && z < w);
-    for row in rows.chunks_exact_mut(w) {
-        let (a, b) = (row[q], row[z]);
-        row[q] = m.rest(b.wrapping_neg());
-        row[z] = a;
-    }
-}
-
-fn phase_gate(rows: &mut [u8], n: usize, q: usize, m: &Modulo) {
-    let (w, z) = (2 * n + 1, n + q);
-    assert!(q < w && z < w);
-    let halves = m.times(m.d / 2);
-    for row in rows.chunks_exact_mut(w) {
-        let (a, b, s) = (row[q], row[z], row[2 * n]);
-        row[z] = m.rest(b.wrapping_add(a));
-        row[2 * n] = m.rest(s.wrapping_add(look_up(halves, a)));
-    }
-}
 
 fn sum(rows: &mut [u8], n: usize, (c, t): (usize, usize), m: &Modulo) {
     let (w, zc, zt) = (2 * n + 1, n + c, n + t);
@@ -266,16 +302,6 @@ fn sum(rows: &mut [u8], n: usize, (c, t): (usize, usize), m: &Modulo) {
         let (a, b) = (row[t].wrapping_add(row[c]), row[zc].wrapping_sub(row[zt]));
         row[t] = m.rest(a);
         row[zc] = m.rest(b);
-    }
-}
-
-fn cz(rows: &mut [u8], n: usize, (c, t): (usize, usize), m: &Modulo) {
-    let (w, zc, zt) = (2 * n + 1, n + c, n + t);
-    assert!(c < w && t < w && zc < w && zt < w);
-    for row in rows.chunks_exact_mut(w) {
-        let (b, z) = (row[zc].wrapping_add(row[t]), row[zt].wrapping_add(row[c]));
-        row[zc] = m.rest(b);
-        row[zt] = m.rest(z);
     }
 }
 
@@ -302,81 +328,110 @@ fn multiplier(rows: &mut [u8], n: usize, q: usize, u: u8, m: &Modulo) {
     }
 }
 
-/// The gate on rows with even phases, or on a frame that is laid out as a row.
-fn gate(rows: &mut [u8], n: usize, entry: &[u8], m: &Modulo) {
+/// The gate on every row.
+fn gate<P: Phases>(rows: &mut [u8], n: usize, entry: &[u8], m: &Modulo) {
     let (q, t) = (usize::from(entry[1]), usize::from(entry[2]));
     match entry[0] {
-        0 => fourier(rows, n, q, m),
-        1 => phase_gate(rows, n, q, m),
+        0 => P::fourier(rows, n, q, m),
+        1 => P::phase_gate(rows, n, q, m),
         2 => sum(rows, n, (q, t), m),
-        3 => cz(rows, n, (q, t), m),
+        3 => P::cz(rows, n, (q, t), m),
         4 => swap(rows, n, (q, t)),
         _ => multiplier(rows, n, q, entry[3], m),
     }
 }
 
-/// An error on every row.
+/// The gate on a frame, which has no phase.
+fn gate_frame(frame: &mut [u8], n: usize, entry: &[u8], m: &Modulo) {
+    let (x, z) = frame.split_at_mut(n);
+    let (q, t, u) = (usize::from(entry[1]), usize::from(entry[2]), entry[3]);
+    match entry[0] {
+        0 => (x[q], z[q]) = (m.rest(z[q].wrapping_neg()), x[q]),
+        1 => z[q] = add(m.d, z[q], x[q]),
+        2 => {
+            x[t] = add(m.d, x[t], x[q]);
+            z[q] = m.rest(z[q].wrapping_sub(z[t]));
+        }
+        3 => {
+            z[q] = add(m.d, z[q], x[t]);
+            z[t] = add(m.d, z[t], x[q]);
+        }
+        4 => {
+            x.swap(q, t);
+            z.swap(q, t);
+        }
+        _ => {
+            x[q] = m.product(u, x[q]);
+            z[q] = m.product(m.inverse(u), z[q]);
+        }
+    }
+}
+
+/// An error on every row. It adds to every kind of phase alike.
 fn strike(rows: &mut [u8], n: usize, error: &[u8], m: &Modulo) {
     let (w, q) = (2 * n + 1, usize::from(error[2]));
-    let z = n + q;
-    assert!(q < w && z < w);
+    let (z, last) = (n + q, 2 * n);
+    assert!(q < w && z < w && last < w);
     let (plus, minus) = (m.times(error[4]), m.times(m.rest(error[3].wrapping_neg())));
     for row in rows.chunks_exact_mut(w) {
         let gained = look_up(plus, row[q]).wrapping_add(look_up(minus, row[z]));
-        row[2 * n] = m.rest(row[2 * n].wrapping_add(gained));
+        row[last] = m.rest(row[last].wrapping_add(gained));
     }
 }
 
 // ---- Measurements
 
-/// Room for the powers of a pivot.
+/// The stabilizer by which a free measurement multiplies.
 #[repr(align(64))]
-struct Powers([Blocks; 32]);
+pub struct Pivot {
+    /// The X and Z powers of each of its powers but power 0.
+    powers: [Blocks; 32],
+    /// Its own phase.
+    phase: u8,
+}
 
-impl Powers {
-    fn new() -> Powers {
-        Powers([[[0; 16]; 9]; 32])
+impl Pivot {
+    fn new() -> Pivot {
+        Pivot {
+            powers: [[[0; 16]; 8]; 32],
+            phase: 0,
+        }
     }
 
-    /// Makes all powers of a row with an even phase.
-    fn make(&mut self, d: u8, row: &[u8]) {
-        self.0[1].as_flattened_mut()[..row.len()].copy_from_slice(row);
-        for h in 2..usize::from(d) {
-            self.0[h] = sum_blocks(d, &self.0[h - 1], &self.0[1]);
+    /// Takes a row in and makes its powers, each from the one before.
+    fn set(&mut self, row: &[u8], n: usize, d: u8) {
+        self.powers[1].as_flattened_mut()[..2 * n].copy_from_slice(&row[..2 * n]);
+        self.phase = row[2 * n];
+        for i in 0..(2 * n).div_ceil(16) {
+            let first = self.powers[1][i];
+            let mut power = first;
+            for h in 2..usize::from(d) {
+                gain(d, &mut power, &first);
+                self.powers[h][i] = power;
+            }
         }
     }
 
     fn power(&self, h: u8) -> &Blocks {
-        &self.0[usize::from(h & 31)]
+        &self.powers[usize::from(h & 31)]
     }
 }
 
 /// A measurement: the outcome and the mark.
-fn measure(
+fn measure<P: Phases>(
     rows: &mut [u8],
     n: usize,
     (q, choice): (usize, u8),
     m: &Modulo,
-    powers: &mut Powers,
+    pivot: &mut Pivot,
 ) -> [u8; 2] {
     let w = 2 * n + 1;
     let mut stabilizers = rows[n * w..].chunks_exact(w);
     let Some(k) = stabilizers.position(|row| row[q] != 0) else {
-        return [certain(rows, n, q, m), 0];
+        return [P::certain(rows, n, q, m), 0];
     };
-    collapse(rows, n, (q, k, choice), m, powers);
+    collapse::<P>(rows, n, (q, k, choice), m, pivot);
     [choice, 1]
-}
-
-/// The outcome that the weighted product of the stabilizers fixes, from even phases: they add up,
-/// and the product is Z on q, whose even phase is its phase.
-fn certain(rows: &[u8], n: usize, q: usize, m: &Modulo) -> u8 {
-    let w = 2 * n + 1;
-    let (destabilizers, stabilizers) = rows.split_at(n * w);
-    let powers = destabilizers.chunks_exact(w).map(|row| u16::from(row[q]));
-    let phases = stabilizers.chunks_exact(w).map(|row| u16::from(row[2 * n]));
-    let sum = powers.zip(phases).map(|(h, r)| h * r).sum();
-    m.rest(m.reduce(sum).wrapping_neg())
 }
 
 /// The rows whose power on q is not 0, each with its exponent.
@@ -392,7 +447,7 @@ impl Changing {
 }
 
 /// Finds them without a branch, which would often be foreseen wrongly for small d.
-fn changing(rows: &[u8], w: usize, q: usize, exponents: &[u8; 32]) -> Changing {
+fn changing(rows: &[u8], w: usize, q: usize, exponents: &Table) -> Changing {
     let mut list = [(0, 0); POWERS];
     let mut count = 0;
     for (i, row) in (0..).zip(rows.chunks_exact(w)) {
@@ -404,24 +459,26 @@ fn changing(rows: &[u8], w: usize, q: usize, exponents: &[u8; 32]) -> Changing {
 }
 
 /// A free measurement of q by stabilizer k.
-fn collapse(
+fn collapse<P: Phases>(
     rows: &mut [u8],
     n: usize,
     (q, k, choice): (usize, usize, u8),
     m: &Modulo,
-    powers: &mut Powers,
+    pivot: &mut Pivot,
 ) {
-    let (w, d) = (2 * n + 1, m.d);
-    let (pivot, destabilizer) = ((n + k) * w, k * w);
-    let inverse = m.inverse(rows[pivot + q]);
-    powers.make(d, &rows[pivot..pivot + w]);
-    for &(i, h) in changing(rows, w, q, m.times(d - inverse)).as_slice() {
-        let at = usize::from(i) * w;
-        gain(d, &mut rows[at..at + w], powers.power(h));
-    }
-    let first = powers.power(inverse).as_flattened();
-    rows[destabilizer..destabilizer + w].copy_from_slice(&first[..w]);
-    let measured = &mut rows[pivot..pivot + w];
+    let w = 2 * n + 1;
+    let (measured, partner) = ((n + k) * w, k * w);
+    let inverse = m.inverse(rows[measured + q]);
+    pivot.set(&rows[measured..measured + w], n, m.d);
+    // Both are overwritten in the end. Without a power on q they are not listed.
+    rows[measured + q] = 0;
+    rows[partner + q] = 0;
+    let changing = changing(rows, w, q, m.times(m.d - inverse));
+    P::sweep(rows, n, changing.as_slice(), pivot, m);
+    let partner = &mut rows[partner..partner + w];
+    partner[..2 * n].copy_from_slice(&pivot.power(inverse).as_flattened()[..2 * n]);
+    partner[2 * n] = P::phase_of_power(inverse, n, pivot, m);
+    let measured = &mut rows[measured..measured + w];
     measured.fill(0);
     measured[n + q] = 1;
     measured[2 * n] = m.rest(choice.wrapping_neg());
@@ -634,7 +691,7 @@ fn start<'a, 'b>(
 }
 
 /// The direct run: each error strikes every row at its place.
-pub fn direct_run(book: &[u8], tableau: &mut [u8], results: &mut [u8]) -> Told {
+pub fn direct_run<P: Phases>(book: &[u8], tableau: &mut [u8], results: &mut [u8]) -> Told {
     let (book, rows) = match start(book, tableau, results) {
         Ok(started) => started,
         Err(told) => return told,
@@ -642,31 +699,42 @@ pub fn direct_run(book: &[u8], tableau: &mut [u8], results: &mut [u8]) -> Told {
     if !is_valid(book.d, book.n, rows) {
         return (9, 0);
     }
-    (0, run_rows(&book, rows, results, &Modulo::new(book.d)))
+    let modulo = Modulo::new(book.d);
+    (0, run_rows::<P>(&book, rows, results, &modulo))
 }
 
 /// A direct run on the rows of a valid tableau. How many measurements there were.
-pub fn run_rows(book: &Book, rows: &mut [u8], results: &mut [u8], modulo: &Modulo) -> usize {
-    turn_phases(rows, book.n, book.d / 2, modulo);
-    let measurements = strike_along(book, rows, results, modulo);
-    turn_phases(rows, book.n, book.d / 2 + 1, modulo);
+pub fn run_rows<P: Phases>(
+    book: &Book,
+    rows: &mut [u8],
+    results: &mut [u8],
+    modulo: &Modulo,
+) -> usize {
+    P::enter(rows, book.n, modulo);
+    let measurements = strike_along::<P>(book, rows, results, modulo);
+    P::leave(rows, book.n, modulo);
     measurements
 }
 
 /// All operations and errors of a direct run. How many measurements there were.
-fn strike_along(book: &Book, rows: &mut [u8], results: &mut [u8], modulo: &Modulo) -> usize {
+fn strike_along<P: Phases>(
+    book: &Book,
+    rows: &mut [u8],
+    results: &mut [u8],
+    modulo: &Modulo,
+) -> usize {
     let (n, mut errors, mut done) = (book.n, book.errors, 0);
-    let mut powers = Powers::new();
+    let mut pivot = Pivot::new();
     for (k, entry) in book.operations.chunks_exact(4).enumerate() {
         while let Some(error) = take_error(&mut errors, k) {
             strike(rows, n, error, modulo);
         }
         if entry[0] != 6 {
-            gate(rows, n, entry, modulo);
+            gate::<P>(rows, n, entry, modulo);
             continue;
         }
         let measured = (entry[1].into(), book.choices[done]);
-        let result = measure(rows, n, measured, modulo, &mut powers);
+        let result = measure::<P>(rows, n, measured, modulo, &mut pivot);
         results[2 * done..2 * done + 2].copy_from_slice(&result);
         done += 1;
     }
@@ -677,7 +745,7 @@ fn strike_along(book: &Book, rows: &mut [u8], results: &mut [u8], modulo: &Modul
 }
 
 /// The frame run: errors change the frame alone. The third number is the verdict.
-pub fn frame_run(
+pub fn frame_run<P: Phases>(
     book: &[u8],
     tableau: &mut [u8],
     results: &mut [u8],
@@ -696,17 +764,16 @@ pub fn frame_run(
         return (9, 0, 0);
     }
     let modulo = Modulo::new(d);
-    let mut carried = [0; POWERS + 1];
-    turn_phases(rows, n, d / 2, &modulo);
-    let measurements = carry_along(&book, rows, results, &mut carried[..2 * n + 1], &modulo);
-    turn_phases(rows, n, d / 2 + 1, &modulo);
-    frame.copy_from_slice(&carried[..2 * n]);
-    let verdict = shift(rows, n, &carried, shifts, &modulo);
+    frame.fill(0);
+    P::enter(rows, n, &modulo);
+    let measurements = carry_along::<P>(&book, rows, results, frame, &modulo);
+    P::leave(rows, n, &modulo);
+    let verdict = shift(rows, n, frame, shifts, &modulo);
     (0, measurements, verdict)
 }
 
 /// All operations and errors of a frame run. How many measurements there were.
-fn carry_along(
+fn carry_along<P: Phases>(
     book: &Book,
     rows: &mut [u8],
     results: &mut [u8],
@@ -714,19 +781,19 @@ fn carry_along(
     modulo: &Modulo,
 ) -> usize {
     let (n, mut errors, mut done) = (book.n, book.errors, 0);
-    let mut powers = Powers::new();
+    let mut pivot = Pivot::new();
     for (k, entry) in book.operations.chunks_exact(4).enumerate() {
         while let Some(error) = take_error(&mut errors, k) {
             carry(frame, n, error, modulo.d);
         }
         if entry[0] != 6 {
-            gate(rows, n, entry, modulo);
-            gate(frame, n, entry, modulo);
+            gate::<P>(rows, n, entry, modulo);
+            gate_frame(frame, n, entry, modulo);
             continue;
         }
         let q = usize::from(entry[1]);
         let measured = (q, book.choices[done]);
-        let [clean, mark] = measure(rows, n, measured, modulo, &mut powers);
+        let [clean, mark] = measure::<P>(rows, n, measured, modulo, &mut pivot);
         let reported = add(modulo.d, clean, frame[q]);
         results[2 * done..2 * done + 2].copy_from_slice(&[reported, mark]);
         done += 1;
@@ -744,8 +811,8 @@ fn carry(frame: &mut [u8], n: usize, error: &[u8], d: u8) {
     frame[n + q] = add(d, frame[n + q], error[4]);
 }
 
-/// Shifts each row's phase by the pairing of the frame with that row. The verdict, of the
-/// stabilizers' shifts.
+/// Shifts the phase of each row by the pairing of the frame with that row. The verdict is that of
+/// the stabilizers' shifts.
 fn shift(rows: &mut [u8], n: usize, frame: &[u8], shifts: &mut [u8], m: &Modulo) -> usize {
     for (row, shift) in rows.chunks_exact_mut(2 * n + 1).zip(&mut *shifts) {
         let plus = m.reduce(dot(&frame[n..2 * n], &row[..n]));

@@ -7,7 +7,7 @@ use lib.ListN.{length-set}
 use Rattle.modular.proofs.Listed.{dimension}
 use Rattle.circuit.specs.Circuit.{kind}
 use Rattle.book.proofs.Lists.{op-count}
-use Rattle.lane_gate.proofs.Codes.{code-6, code-gate}
+use Rattle.codes.proofs.Codes.{code-6, code-gate}
 use Rattle.block.specs.Block.{gated, noted}
 use Rattle.block.proofs.Told.{measured-room}
 use borrow.Author.Needs.{needs}

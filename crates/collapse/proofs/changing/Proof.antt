@@ -13,82 +13,36 @@ use Rattle.collapse.proofs.changing.Statement.{statement}
 use Rattle.collapse.proofs.changing.Tie as tie
 
 abbrev Inv-loop : tie.InvT-loop
-Inv-loop list₀ t exps k q n w rows count₀ i₀ list count i =
-    (i ≤ 2 * n) × (count ≤ i) × (length list ≡ length list₀) × (take count list ≡ chosen (isChanging n q k exps t) i)
+Inv-loop list₀ t k q n w count₀ i₀ i-end list count i =
+    (i ≤ 2 * n) × (count ≤ i) × (length list ≡ length list₀) × (take count list ≡ chosen (isChanging n q k t) i)
 
 abbrev μ-loop : tie.MeasureT-loop
-μ-loop list₀ t exps k q n w rows count₀ i₀ list count i = 2 * n - i
+μ-loop list₀ t k q n w count₀ i₀ i-end list count i = 2 * n - i
 
 -- the byte that is read lies in the tableau
-inside : (c : tie.In-loop Inv-loop μ-loop) → let a = c .before .before .before .before .before .args in
-    c .before .loop .i * (2 * a .n + 1) + a .q < 2 * a .n * (2 * a .n + 1)
+inside : (c : tie.In-loop Inv-loop μ-loop) → let a = c .before .before .before .before .args in
+    c .before .loop .i * (2 * a .n + 1) + a .q < length (a .t .now)
 inside c =
-    let a = c .before .before .before .before .before .args in
-    omega (arith, row-in (c .before .loop .i) (2 * a .n) (2 * a .n + 1) (c .loop-test .taken))
-
-mul-w : tie.Need-mul-w Inv-loop μ-loop
-mul-w c = omega arith
-
-add-w : tie.Need-add-w Inv-loop μ-loop
-add-w c = omega arith
-
-mul-rows : tie.Need-mul-rows Inv-loop μ-loop
-mul-rows c = omega arith
+    let s = c .before .before .before .before in
+    omega (arith, row-in (c .before .loop .i) (2 * s .args .n) (2 * s .args .n + 1) (c .loop-test .taken), s .pre .4)
 
 loop-holds : tie.Need-loop-holds Inv-loop μ-loop
 unfolding chosen
 loop-holds c = (omega arith, omega arith, refl, refl)
 
-cast-list : tie.Need-cast-list Inv-loop μ-loop
-cast-list c = omega arith
+mul-one-if : tie.Need-mul-one-if Inv-loop μ-loop
+mul-one-if c = omega (arith, inside c)
 
-slice-write-list : tie.Need-slice-write-list Inv-loop μ-loop
-slice-write-list c = omega arith
+add-one-if-2 : tie.Need-add-one-if-2 Inv-loop μ-loop
+add-one-if-2 c = omega (arith, inside c)
 
-mul-index : tie.Need-mul-index Inv-loop μ-loop
-mul-index c = omega (arith, inside c, c .before .before .before .before .before .pre .4 .room)
-
-add-index : tie.Need-add-index Inv-loop μ-loop
-add-index c = omega (arith, inside c, c .before .before .before .before .before .pre .4 .room)
-
-shared-slice-read-index : tie.Need-shared-slice-read-index Inv-loop μ-loop
-shared-slice-read-index c = omega (arith, inside (c .before), c .before .before .before .before .before .before .pre .4 .room)
-
-index-requires : tie.Need-index-requires Inv-loop μ-loop
-index-requires c κs = search needs
-
-shared-slice-read-h : tie.Need-shared-slice-read-h Inv-loop μ-loop
-shared-slice-read-h c =
-    let s = c .before .before .before .before .before .before .before .before in
-    omega (arith, c .before .index .ensures, s .pre .4 .below _ (inside (c .before .before .before)))
-
-add-one-if : tie.Need-add-one-if Inv-loop μ-loop
-add-one-if c = omega arith
-
-one-if-requires : tie.Need-one-if-requires Inv-loop μ-loop
-one-if-requires c κs = search needs
-
-add-count : tie.Need-add-count Inv-loop μ-loop
-add-count c = omega arith
-
-add-i : tie.Need-add-i Inv-loop μ-loop
-add-i c = omega arith
-
-loop-less : tie.Need-loop-less Inv-loop μ-loop
-loop-less c = omega arith
+shared-slice-read-one-if : tie.Need-shared-slice-read-one-if Inv-loop μ-loop
+shared-slice-read-one-if c = inside (c .before)
 
 loop-again : tie.Need-loop-again Inv-loop μ-loop
 loop-again c =
-    let s = c .before .before .before .before .before .before .before .before .before in
-    let l = c .before .before .before .before .before .loop in (
-      omega arith,
-      omega arith,
-      simp length-set (l .inv .2),
-      chosen-more _ (l .i) (l .list) (l .count) _ (omega arith) (l .inv .3) (rw (← c .before .before .index .ensures) (c .one-if .ensures .0)),
-    )
-
-same-length : tie.Need-same-length Inv-loop μ-loop
-same-length c = omega arith
+    let l = c .before .before .before .loop in
+    (omega arith, omega arith, simp length-set (l .inv .2), chosen-more _ (l .i) (l .list) (l .count) _ (omega arith) (l .inv .3) (c .one-if .ensures .0))
 
 returns : tie.Need-returns Inv-loop μ-loop
 returns c =
@@ -101,22 +55,20 @@ changing-spec =
     (tie.spec
     Inv-loop
     μ-loop
-    mul-w
-    add-w
-    mul-rows
+    (λ c. omega arith)
+    (λ c. omega arith)
+    (λ c. omega arith)
     loop-holds
-    cast-list
-    slice-write-list
-    mul-index
-    add-index
-    shared-slice-read-index
-    index-requires
-    shared-slice-read-h
-    add-one-if
-    one-if-requires
-    add-count
-    add-i
-    loop-less
+    (λ c. omega arith)
+    (λ c. omega arith)
+    (λ c. omega arith)
+    mul-one-if
+    add-one-if-2
+    shared-slice-read-one-if
+    (λ c κs. search needs)
+    (λ c. omega arith)
+    (λ c. omega arith)
+    (λ c. omega arith)
     loop-again
-    same-length
+    (λ c. omega arith)
     returns)

@@ -1,57 +1,139 @@
 -- `collapse::collapse` meets its contract.
 -- Assumes nothing.
-use mathlib.Core.Path.{refl}
+use mathlib.Core.Path.{_≡_, refl, sym}
 use Prim.Native.Nat.{_+_, _*_, _≤_}
-use native.Mathlib.Nat.{le-refl, mul-le-mul}
+use native.Mathlib.Nat.{add-sub-cancel-left}
 use native.Mathlib.Omega.{arith}
+use lib.ListN.{length}
+use lib.Seq.{length-take-le}
+use borrow.Author.Needs.{needs}
 use Rattle.modular.proofs.Listed.{dimension}
-use Rattle.validity.proofs.Exactly.{valid-tableau}
-use Rattle.outcome.proofs.EvenCollapse.{even-collapse}
+use Rattle.tableau.specs.Tableau.{part, row}
+use Rattle.tableau.proofs.Parts.{row-room, tableau-row}
+use Rattle.collapse.specs.declared.Measurement.{Measurement}
+use Rattle.collapse.specs.Setting.{pivotIn, Setting}
+use Rattle.collapse.proofs.Stored.{powers-none, prepared}
+use Rattle.collapse.proofs.Sweep.{measured-is}
 use Rattle.collapse.proofs.collapse.Statement.{statement}
 use Rattle.collapse.proofs.collapse.Tie as tie
 
-slice-aggregate-collapse-with : tie.Need-slice-aggregate-collapse-with
-slice-aggregate-collapse-with c = refl
+-- the pivot lies in the tableau
+room : (s : tie.Start) → (s .args .n + s .args .k) * (2 * s .args .n + 1) + (2 * s .args .n + 1) ≤ length (s .args .t .now)
+room s = row-room (s .args .n) (s .args .t .now) (s .pre .6 .room) (s .args .n + s .args .k) (omega arith)
 
-slice-aggregate-collapse-with-2 : tie.Need-slice-aggregate-collapse-with-2
-slice-aggregate-collapse-with-2 c = refl
+-- the measurement, and the powers of its pivot
+abbrev numbers : tie.After-powers → Measurement
+numbers c =
+    let a = c .before .before .before .before .before .before .before .before .before .args in
+    record { q = a .q; k = a .k; choice = a .choice; inv = c .before .before .before .before .before .inverse .result; d = a .d; m = c .before .before .before .before .wide-reciprocal .result; n = a .n }
 
-slice-aggregate-collapse-with-3 : tie.Need-slice-aggregate-collapse-with-3
-slice-aggregate-collapse-with-3 c = refl
-
-collapse-with-requires : tie.Need-collapse-with-requires
-collapse-with-requires c κs =
-    let s = c .before .before .before .before .before in
+holds : (c : tie.After-powers) → let a = c .before .before .before .before .before .before .before .before .before .args in
+    (pivotIn (a .n) (c .powers .last .0) ≡ row (a .n) (a .t .now) (a .n + a .k)) × Setting (numbers c) (c .powers .last .0)
+unfolding part
+holds c =
+    let s = c .before .before .before .before .before .before .before .before .before in
     let p = s .pre in
-    let wide : 2 * s .args .n + 1 ≤ 129 = omega arith in (
-      p .0,
+    let t = s .args .t .now in
+    prepared (numbers c) t _ (p .0) (p .1) (p .2) (p .3) (p .4) (c .before .before .before .before .wide-reciprocal .ensures) (p .6)
+    (c .before .before .before .before .before .inverse .ensures)
+    (simp add-sub-cancel-left at (c .powers .ensures))
+
+mul-s : tie.Need-mul-s
+mul-s c = omega (arith, room (c .before .before))
+
+add-e : tie.Need-add-e
+add-e c = omega (arith, room (c .before .before))
+
+add-inverse : tie.Need-add-inverse
+add-inverse c = omega (arith, room (c .before .before))
+
+slice-read-inverse : tie.Need-slice-read-inverse
+slice-read-inverse c = omega (arith, room (c .before .before .before))
+
+wide-reciprocal-requires : tie.Need-wide-reciprocal-requires
+wide-reciprocal-requires c κs = let e = dimension _ (c .before .before .before .before .pre .0) in (e .low, e .high)
+
+slice-aggregate-powers : tie.Need-slice-aggregate-powers
+slice-aggregate-powers c = refl
+
+part-powers-end : tie.Need-part-powers-end
+part-powers-end c = omega (arith, room (c .before .before .before .before .before .before .before))
+
+powers-requires : tie.Need-powers-requires
+unfolding part
+powers-requires c κs =
+    let s = c .before .before .before .before .before .before .before .before in
+    let p = s .pre in
+    let m = c .before .before .before .wide-reciprocal .ensures in (
       p .1,
-      p .2,
-      p .3,
-      p .4,
-      valid-tableau _ _ _ (p .5),
-      le-refl 129,
-      refl,
-      mul-le-mul (dimension _ (p .0) .high) wide,
-      refl,
+      simp add-sub-cancel-left (tableau-row _ _ (s .args .t .now) (p .6) (s .args .n + s .args .k) (omega arith)),
+      m,
+      powers-none _ _ _ 4464 (omega (arith, m .low)) (p .1) (omega (arith, m .high)),
     )
 
-same-length : tie.Need-same-length
-same-length c = omega arith
+slice-aggregate-widen : tie.Need-slice-aggregate-widen
+slice-aggregate-widen c = refl
+
+part-widen-end : tie.Need-part-widen-end
+part-widen-end c = omega (arith, room (c .before .before .before .before .before .before .before .before .before .before .before .before))
+
+slice-aggregate-changing : tie.Need-slice-aggregate-changing
+slice-aggregate-changing c = refl
+
+slice-aggregate-clear : tie.Need-slice-aggregate-clear
+slice-aggregate-clear c = sym (length-take-le _ (c .before .before .before .changing .last .0) (omega arith))
+
+clear-requires : tie.Need-clear-requires
+unfolding part
+clear-requires c κs =
+    let g = c .before .before .before .before .before .before .before .before .before .before .before .before .before .before in
+    let p = g .before .before .before .before .before .before .before .before .before .pre in
+    let h = holds g in
+    (c .before .before .before .before .before .changing .ensures .1, p .6, p .5, h .1, rw (h .0) (simp add-sub-cancel-left at (c .before .before .before .before .before .before .before .before .before .widen .ensures)))
+
+replace-requires : tie.Need-replace-requires
+replace-requires c κs = (c .before .before .before .before .clear .ensures .1, holds (c .before .before .before .before .before .before .before .before .before .before .before .before .before .before .before .before .before .before .before) .1)
 
 returns : tie.Need-returns
 returns c =
-    let p = c .before .before .before .before .before .before .before .before .before .before .before .pre in
-    let e = c .before .before .before .before .before .collapse-with .ensures in
-    (rw (e .0) (even-collapse _ _ (dimension _ (p .0)) _ (p .5) _ _ _ (p .2) (p .3) (p .4)), e .1)
+    let g = c .before .before .before .before .before .before .before .before .before .before .before .before .before .before .before .before .before .before .before .before .before .before in
+    let s = g .before .before .before .before .before .before .before .before .before in
+    let p = s .pre in
+    let h = holds g in
+    let u = c .before .before .before .before .before .before .before .clear .ensures in
+    measured-is _ _ _ _ _ _ _ (s .args .t .now) _ (p .6) (omega (arith, h .1 .reciprocal .low)) (p .2) (p .3) (h .1 .inverts) (u .1) (u .0) _ (c .before .before .replace .ensures) (h .0)
 
 pub collapse-spec : {M : Type 1} → statement M
 collapse-spec =
     tie.close
     (tie.spec
-    slice-aggregate-collapse-with
-    slice-aggregate-collapse-with-2
-    slice-aggregate-collapse-with-3
-    collapse-with-requires
-    same-length
+    (λ c. omega arith)
+    (λ c. omega arith)
+    (λ c. omega arith)
+    mul-s
+    add-e
+    add-inverse
+    slice-read-inverse
+    (λ c κs. search needs)
+    wide-reciprocal-requires
+    slice-aggregate-powers
+    (λ c. omega arith)
+    (λ c. omega arith)
+    part-powers-end
+    powers-requires
+    slice-aggregate-widen
+    (λ c. omega arith)
+    (λ c. omega arith)
+    part-widen-end
+    (λ c κs. search needs)
+    slice-aggregate-changing
+    (λ c κs. search needs)
+    (λ c. omega arith)
+    slice-aggregate-clear
+    (λ c. omega arith)
+    (λ c. omega arith)
+    clear-requires
+    (λ c. omega arith)
+    replace-requires
+    (λ c. omega arith)
     returns)

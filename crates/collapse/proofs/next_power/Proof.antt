@@ -1,98 +1,65 @@
 -- `collapse::next_power` meets its contract.
 -- Assumes nothing.
-use mathlib.Core.Path.{_≡_, refl, sym, ap, _∙_}
-use Prim.Native.Nat.{ℕ, _+_, _-_, _*_, _%_, _≤_}
+use mathlib.Core.Path.{_≡_, refl}
+use Prim.Native.Nat.{_+_, _-_, _*_, _≤_}
+use native.Mathlib.Nat.{le-antisymm}
 use native.Mathlib.Omega.{arith}
 use lib.ListN.{length, getD, length-set}
-use Rattle.row.specs.Row.{tab, sumAt}
-use Rattle.row.specs.Even.{added}
-use Rattle.row.proofs.Fill.{tab-row}
-use Rattle.tableau.specs.Tableau.{row, put}
-use Rattle.tableau.proofs.Parts.{row-at}
-use Rattle.collapse.proofs.Multiples.{put-none, put-earlier, put-more, put-all}
+use Rattle.row.specs.Row.{power}
+use Rattle.row.proofs.Laws.{power-row}
+use Rattle.collapse.proofs.Stored.{byte-more, Partly, partly-more, partly-all}
 use Rattle.collapse.proofs.next_power.Statement.{statement}
 use Rattle.collapse.proofs.next_power.Tie as tie
 
 abbrev Inv-loop : tie.InvT-loop
-Inv-loop p₀ h pivot d n w s e k₀ p k =
-    (k ≤ 2 * n + 1) × (length p ≡ length p₀) × (p ≡ put (h * (2 * n + 1) + (2 * n + 1)) k (tab (sumAt d (row n p₀ h) pivot) k) p₀)
+Inv-loop p₀ h r pivot d n s e last j₀ p j = (j ≤ 2 * n) × (length p ≡ length p₀) × Partly d n pivot p h j
 
 abbrev μ-loop : tie.MeasureT-loop
-μ-loop p₀ h pivot d n w s e k₀ p k = 2 * n + 1 - k
+μ-loop p₀ h r pivot d n s e last j₀ p j = 2 * n - j
 
--- the byte of row h is as it was
-old :
-    (c : tie.In-loop Inv-loop μ-loop) →
-    getD (c .before .loop .p) (c .before .before .before .before .args .h * (2 * c .before .before .before .before .args .n + 1) + c .before .loop .k) 0
-    ≡ getD (row (c .before .before .before .before .args .n) (c .before .before .before .before .args .p .now) (c .before .before .before .before .args .h)) (c .before .loop .k) 0
-old c =
-    let a = c .before .before .before .before .args in
-    let l = c .before .loop in
-    put-earlier _ _ _ _ _ (l .inv .2) (a .h * (2 * a .n + 1) + l .k) (omega arith) (omega arith)
-    ∙ sym (row-at (a .n) (a .p .now) (a .h) (l .k) (omega arith))
-
-mul-w : tie.Need-mul-w Inv-loop μ-loop
-mul-w c = omega arith
-
-add-w : tie.Need-add-w Inv-loop μ-loop
-add-w c = omega arith
-
-mul-s : tie.Need-mul-s Inv-loop μ-loop
-mul-s c = omega arith
-
-add-e : tie.Need-add-e Inv-loop μ-loop
-add-e c = omega arith
+-- the byte of row h
+old : (c : tie.In-loop Inv-loop μ-loop) → let a = c .before .before .before .before .args in
+    getD (c .before .loop .p) (a .h * 144 + c .before .loop .j) 0 ≡ getD (power (a .d) (a .n) (a .h) (a .pivot .now)) (c .before .loop .j) 0
+old c = c .before .loop .inv .2 .done .bytes (c .before .before .before .before .args .h) (c .before .loop .j) (omega arith) (omega arith)
 
 loop-holds : tie.Need-loop-holds Inv-loop μ-loop
-loop-holds c = (omega arith, refl, put-none _ _ _)
-
-add-add : tie.Need-add-add Inv-loop μ-loop
-add-add c = omega arith
+loop-holds c = (omega arith, refl, record { done = c .before .before .pre .5; bytes = λ s l. absurd (omega arith) })
 
 slice-read-add : tie.Need-slice-read-add Inv-loop μ-loop
-slice-read-add c = omega arith
-
-shared-slice-read-add : tie.Need-shared-slice-read-add Inv-loop μ-loop
-shared-slice-read-add c = omega arith
+slice-read-add c = omega (arith, c .before .before .before .loop .inv .2 .done .room)
 
 add-requires : tie.Need-add-requires Inv-loop μ-loop
 add-requires c κs =
     let s = c .before .before .before .before .before .before in
-    let k = c .before .before .before .loop .k in
-    (s .pre .0, omega (arith, old (c .before .before), s .pre .2 .below k (omega arith)), s .pre .3 .below k (omega arith))
-
-add-p : tie.Need-add-p Inv-loop μ-loop
-add-p c = omega arith
+    let a = s .args in
+    let j = c .before .before .before .loop .j in
+    let b = power-row (a .d) (a .n) (a .h) (a .pivot .now) (omega arith) .below j (omega arith) in
+    (s .pre .1, s .pre .3 .below j (omega arith), omega (arith, old (c .before .before), b))
 
 slice-write-p : tie.Need-slice-write-p Inv-loop μ-loop
-slice-write-p c = omega arith
-
-add-k : tie.Need-add-k Inv-loop μ-loop
-add-k c = omega arith
-
-loop-less : tie.Need-loop-less Inv-loop μ-loop
-loop-less c = omega arith
+slice-write-p c = omega (arith, c .before .before .before .before .loop .inv .2 .done .room)
 
 loop-again : tie.Need-loop-again Inv-loop μ-loop
 loop-again c =
-    let a = c .before .before .before .before .before .before .before .args in
-    let l = c .before .before .before .before .loop in (
-      omega arith,
-      simp length-set (l .inv .1),
-      put-more _ _ _ _ _ (l .inv .2) _
-          (c .add .ensures ∙ ap (λ (x : ℕ). (x + getD (a .pivot .now) (l .k) 0) % a .d) (old (c .before .before .before)))
-          (omega arith),
-    )
+    let s = c .before .before .before .before .before .before .before in
+    let a = s .args in
+    let l = c .before .before .before .before .loop in
+    let y = byte-more (a .d) (a .n) (a .pivot .now) (s .pre .3) (a .h) (l .j) _ _ (omega arith) (old (c .before .before .before)) (c .add .ensures) in
+    (omega arith, simp length-set (l .inv .1), partly-more _ _ _ (l .p) (a .h) (l .j) _ (l .inv .2) (s .pre .2) (s .pre .0) (omega arith) y)
+
+slice-write-p-2 : tie.Need-slice-write-p-2 Inv-loop μ-loop
+slice-write-p-2 c = omega (arith, c .before .loop .inv .2 .done .room)
 
 same-length : tie.Need-same-length Inv-loop μ-loop
-same-length c = omega arith
+same-length c = simp length-set (c .before .loop .inv .1)
 
 returns : tie.Need-returns Inv-loop μ-loop
-unfolding added
 returns c =
+    let s = c .before .before .before .before in
+    let a = s .args in
     let l = c .before .loop in
-    rw (← tab-row (sumAt _ _ _) (c .before .before .before .before .args .n))
-    (put-all _ _ _ _ _ (l .inv .2) _ (l .inv .0) (c .loop-test .left))
+    let all : l .j ≡ 2 * a .n = le-antisymm (l .inv .0) (c .loop-test .left) in
+    partly-all _ _ _ _ (a .h) (partly-more _ _ _ (l .p) (a .h) (2 * a .n) _ (rw all at (l .inv .2)) (s .pre .2) (s .pre .0) (omega arith) (s .pre .4))
 
 pub next-power-spec : {M : Type 1} → statement M
 next-power-spec =
@@ -100,19 +67,20 @@ next-power-spec =
     (tie.spec
     Inv-loop
     μ-loop
-    mul-w
-    add-w
-    mul-s
-    add-e
+    (λ c. omega arith)
+    (λ c. omega arith)
+    (λ c. omega arith)
     loop-holds
-    add-add
+    (λ c. omega arith)
+    (λ c. omega arith)
     slice-read-add
-    shared-slice-read-add
     add-requires
-    add-p
+    (λ c. omega arith)
     slice-write-p
-    add-k
-    loop-less
+    (λ c. omega arith)
+    (λ c. omega arith)
     loop-again
+    (λ c. omega arith)
+    slice-write-p-2
     same-length
     returns)

@@ -1,55 +1,97 @@
 -- `collapse::powers` meets its contract.
 -- Assumes nothing.
-use mathlib.Core.Path.{_≡_, refl}
-use Prim.Native.Nat.{_+_, _-_, _≤_}
+use mathlib.Core.Path.{_≡_, refl, sym, _∙_}
+use Prim.Native.Nat.{_+_, _-_, _*_, _%_, _<_, _≤_}
 use native.Mathlib.Omega.{arith}
 use lib.ListN.{length}
-use borrow.Author.Needs.{needs}
-use Rattle.collapse.specs.Setting.{Multiples}
-use Rattle.collapse.proofs.Multiples.{more-room, more-row, multiples-more}
+use Rattle.modular.proofs.Residue.{rest-less}
+use Rattle.row.specs.Row.{phaseOf, dot, power}
+use Rattle.row.proofs.Laws.{wider, powers-of, power-row}
+use Rattle.collapse.specs.Setting.{PowersOf}
+use Rattle.collapse.proofs.Exponents.{gain-none, gain-more}
+use Rattle.collapse.proofs.Stored.{phase-more, power-none}
 use Rattle.collapse.proofs.powers.Statement.{statement}
 use Rattle.collapse.proofs.powers.Tie as tie
 
 abbrev Inv-loop : tie.InvT-loop
-Inv-loop p₀ pivot d n rows h₀ p h = (h + 1 ≤ d) × (length p ≡ length p₀) × Multiples d n pivot p (h + 1)
+Inv-loop p₀ pivot d m n own phase₀ gain₀ h₀ h-end p phase gain h =
+    (h + 1 ≤ d) × (length p ≡ length p₀) × PowersOf d n pivot p (h + 1)
+    × (phase ≡ phaseOf n (power d n h pivot)) × (gain ≡ (phaseOf n pivot + h * dot n pivot pivot n) % d)
 
 abbrev μ-loop : tie.MeasureT-loop
-μ-loop p₀ pivot d n rows h₀ p h = d - h
+μ-loop p₀ pivot d m n own phase₀ gain₀ h₀ h-end p phase gain h = d - h
 
-index-requires : tie.Need-index-requires Inv-loop μ-loop
-index-requires c κs = search needs
+-- the next phase
+next : (c : tie.After-add Inv-loop μ-loop) → let a = c .before .before .before .before .before .before .before .before .args in c .add .result ≡ phaseOf (a .n) (power (a .d) (a .n) (c .before .before .loop .h + 1) (a .pivot .now))
+next c =
+    let s = c .before .before .before .before .before .before .before .before in
+    let l = c .before .before .loop in
+    c .add .ensures ∙ phase-more (s .args .d) (s .args .n) (s .args .pivot .now) (s .pre .1) (l .h) _ _ (l .inv .3) (l .inv .4)
+
+dot-requires : tie.Need-dot-requires Inv-loop μ-loop
+dot-requires c κs =
+    let p = c .before .before .pre in
+    let w = wider (p .2 .high) (powers-of (p .1)) in
+    (p .0, w, w)
+
+cast-reduce-wide : tie.Need-cast-reduce-wide Inv-loop μ-loop
+cast-reduce-wide c = omega (arith, c .dot .ensures .1)
+
+reduce-wide-requires : tie.Need-reduce-wide-requires Inv-loop μ-loop
+reduce-wide-requires c κs = (omega (arith, c .dot .ensures .1), c .before .before .before .pre .2)
+
+shared-slice-read-gain : tie.Need-shared-slice-read-gain Inv-loop μ-loop
+shared-slice-read-gain c = omega (arith, c .before .before .before .before .before .pre .1 .len)
+
+sub-h-end : tie.Need-sub-h-end Inv-loop μ-loop
+sub-h-end c = omega (arith, c .before .before .before .before .before .pre .2 .low)
 
 loop-holds : tie.Need-loop-holds Inv-loop μ-loop
-loop-holds c = let p = c .before .before .before .pre in (omega arith, refl, p .3)
+loop-holds c =
+    let s = c .before .before .before .before .before in
+    let a = s .args in
+    let r = s .pre .1 in
+    let p : 0 < a .d = omega (arith, s .pre .2 .low) in
+    (p, refl, s .pre .3, sym (power-none (a .d) (a .n) (a .pivot .now) p (2 * a .n) (omega arith)), gain-none (a .d) _ _ (r .below (2 * a .n) (omega arith)))
 
-add-loop : tie.Need-add-loop Inv-loop μ-loop
-add-loop c = omega arith
+add-requires : tie.Need-add-requires Inv-loop μ-loop
+add-requires c κs =
+    let s = c .before .before .before .before .before .before .before in
+    let a = s .args in
+    let l = c .before .loop in
+    let p : 0 < a .d = omega (arith, s .pre .2 .low) in
+    (s .pre .2 .high, rw (l .inv .3) (power-row (a .d) (a .n) (l .h) (a .pivot .now) p .below (2 * a .n) (omega arith)), rest-less _ p (l .inv .4))
+
+add-requires-2 : tie.Need-add-requires-2 Inv-loop μ-loop
+add-requires-2 c κs =
+    let s = c .before .before .before .before .before .before .before .before in
+    let p : 0 < s .args .d = omega (arith, s .pre .2 .low) in
+    (s .pre .2 .high, rest-less _ p (c .before .before .loop .inv .4), rest-less _ p (c .before .before .before .before .reduce-wide .ensures))
 
 next-power-requires : tie.Need-next-power-requires Inv-loop μ-loop
 next-power-requires c κs =
-    let p = c .before .before .before .before .before .before .pre in
-    let l = c .before .before .loop in
-    (p .1, more-room _ _ _ (p .0) (p .2) _ _ (l .inv .2) (omega arith), more-row _ _ _ (p .0) (p .2) _ _ (l .inv .2) (omega arith), p .2)
-
-add-h : tie.Need-add-h Inv-loop μ-loop
-add-h c = omega arith
-
-loop-less : tie.Need-loop-less Inv-loop μ-loop
-loop-less c = omega arith
+    let p = c .before .before .before .before .before .before .before .before .before .before .pre in
+    (omega (arith, c .before .before .before .loop-test .taken), p .2 .high, p .0, p .1, next (c .before .before), c .before .before .before .before .loop .inv .2)
 
 loop-again : tie.Need-loop-again Inv-loop μ-loop
 loop-again c =
-    let p = c .before .before .before .before .before .before .before .before .before .pre in
-    let l = c .before .before .before .before .before .loop in
-    (omega arith, omega arith, multiples-more _ _ _ (p .0) (p .2) _ _ (l .inv .2) (omega arith) _ (c .before .before .next-power .ensures))
-
-same-length : tie.Need-same-length Inv-loop μ-loop
-same-length c = omega arith
+    let a = c .before .before .before .before .before .before .before .before .before .before .before .before .before .args in
+    let l = c .before .before .before .before .before .before .before .loop in
+    let e : l .h + 2 ≡ l .h + 1 + 1 = omega arith in (
+      omega (arith, c .before .before .before .before .before .before .loop-test .taken),
+      omega arith,
+      rw e at (c .before .before .next-power .ensures),
+      next (c .before .before .before .before .before),
+      c .before .before .before .before .add2 .ensures
+          ∙ rw (l .inv .4, c .before .before .before .before .before .before .before .before .before .reduce-wide .ensures, c .before .before .before .before .before .before .before .before .before .before .dot .ensures .0)
+          (gain-more (a .d) (l .h) (phaseOf (a .n) (a .pivot .now)) (dot (a .n) (a .pivot .now) (a .pivot .now) (a .n))),
+    )
 
 returns : tie.Need-returns Inv-loop μ-loop
 returns c =
-    let e : c .before .loop .h + 1 ≡ c .before .before .before .before .before .args .d = omega arith in
-    rw e at (c .before .loop .inv .2)
+    let l = c .before .loop in
+    let e : l .h + 1 ≡ c .before .before .before .before .before .before .before .args .d = omega (arith, l .inv .0, c .loop-test .left) in
+    rw e at (l .inv .2)
 
 pub powers-spec : {M : Type 1} → statement M
 powers-spec =
@@ -57,12 +99,18 @@ powers-spec =
     (tie.spec
     Inv-loop
     μ-loop
-    index-requires
+    dot-requires
+    cast-reduce-wide
+    reduce-wide-requires
+    (λ c. omega arith)
+    shared-slice-read-gain
+    sub-h-end
     loop-holds
-    add-loop
+    add-requires
+    add-requires-2
     next-power-requires
-    add-h
-    loop-less
+    (λ c. omega arith)
+    (λ c. omega arith)
     loop-again
-    same-length
+    (λ c. omega arith)
     returns)

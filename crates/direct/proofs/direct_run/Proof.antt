@@ -10,18 +10,6 @@ use Rattle.direct.proofs.Books.{short-book, rooms, invalid-book, tested
 use Rattle.direct.proofs.direct_run.Statement.{statement}
 use Rattle.direct.proofs.direct_run.Tie as tie
 
-read-requires : tie.Need-read-requires
-read-requires c κs = search needs
-
-enum-known-reading : tie.Need-enum-known-reading
-enum-known-reading c = search needs
-
-enum-known-reading-2 : tie.Need-enum-known-reading-2
-enum-known-reading-2 c = search needs
-
-wide-requires : tie.Need-wide-requires
-wide-requires c κs = search needs
-
 returns : tie.Need-returns
 unfolding directTold directBook
 returns c =
@@ -34,12 +22,6 @@ is-roomy-requires c κs =
     let s = m .before .before .before .before .before .before .args in
     let g = handed (now (s .book)) (m .before .before .read .ensures) (m .reading .given .1) in
     g .qudits
-
-same-length : tie.Need-same-length
-same-length c = search needs
-
-same-length-2 : tie.Need-same-length-2
-same-length-2 c = search needs
 
 returns-2 : tie.Need-returns-2
 returns-2 c =
@@ -56,12 +38,6 @@ is-valid-requires c κs =
     let dim = dimension _ (g .dimension) in
     let r = rooms (now (s .book)) g (now (s .t)) (now (s .results)) (c .before .before .is-roomy .ensures) (c .before .if1 .left) in
     (omega arith, dim .high, g .qudits, r .0)
-
-same-length-3 : tie.Need-same-length-3
-same-length-3 c = search needs
-
-same-length-4 : tie.Need-same-length-4
-same-length-4 c = search needs
 
 returns-3 : tie.Need-returns-3
 returns-3 c =
@@ -109,12 +85,6 @@ run-requires c κs =
       tested (now (s .book)) g (now (s .t)) (now (s .results)) (o .is-roomy .ensures) (v .before .before .if1 .left) (v .is-valid .ensures) (p .before .before .before .if2 .left),
     )
 
-same-length-5 : tie.Need-same-length-5
-same-length-5 c = search needs
-
-same-length-6 : tie.Need-same-length-6
-same-length-6 c = search needs
-
 returns-4 : tie.Need-returns-4
 returns-4 c =
     let u = c .before .before .before .before in
@@ -131,23 +101,23 @@ pub direct-run-spec : {M : Type 1} → statement M
 direct-run-spec =
     tie.close
     (tie.spec
-    read-requires
-    enum-known-reading
-    enum-known-reading-2
-    wide-requires
+    (λ c κs. search needs)
+    (λ c. search needs)
+    (λ c. search needs)
+    (λ c κs. search needs)
     returns
     is-roomy-requires
-    same-length
-    same-length-2
+    (λ c. search needs)
+    (λ c. search needs)
     returns-2
     is-valid-requires
-    same-length-3
-    same-length-4
+    (λ c. search needs)
+    (λ c. search needs)
     returns-3
     part-of-requires
     part-of-requires-2
     part-of-requires-3
     run-requires
-    same-length-5
-    same-length-6
+    (λ c. search needs)
+    (λ c. search needs)
     returns-4)

@@ -6,8 +6,10 @@ use native.Mathlib.Omega.{arith}
 use denote.Ref.{now}
 use lib.ListN.{length}
 use borrow.Author.Needs.{needs}
+use Rattle.modular.proofs.Listed.{dimension}
 use Rattle.validity.specs.Validity.{Valid}
-use Rattle.even.specs.Even.{plain}
+use Rattle.validity.proofs.Exactly.{valid-tableau}
+use Rattle.keeping.proofs.Keeping.{error-keeps-valid}
 use Rattle.circuit.specs.Circuit.{errAt}
 use Rattle.book.specs.Decoded.{errorsOf}
 use Rattle.book.proofs.Lists.{error-count, error-at}
@@ -17,79 +19,64 @@ use Rattle.direct_step.proofs.strike.Statement.{statement}
 use Rattle.direct_step.proofs.strike.Tie as tie
 
 abbrev Inv-loop : tie.InvT-loop
-Inv-loop t₀ errors j k d n count i₀ t i =
-    Passing (errorsOf errors) i k × (plain d n t ≡ strike d n (errorsOf errors) k (plain d n t₀) i) × Valid d n t × (length t ≡ length t₀)
+Inv-loop t₀ errors j k tables d n count i₀ t i =
+    Passing (errorsOf errors) i k × (t ≡ strike d n (errorsOf errors) k t₀ i) × Valid d n t × (length t ≡ length t₀)
 
 abbrev μ-loop : tie.MeasureT-loop
-μ-loop t₀ errors j k d n count i₀ t i = count - i
+μ-loop t₀ errors j k tables d n count i₀ t i = count - i
 
 loop-holds : tie.Need-loop-holds Inv-loop μ-loop
 unfolding strike
 loop-holds c =
-    let s = c .before .before in
-    (passing-first (s .pre .3), sym (taken-before (strike-taken _ _ _ _ (plain (s .args .d) (s .args .n) (now (s .args .t)))) (s .pre .3)), s .pre .2, refl)
-
-error-at-requires : tie.Need-error-at-requires Inv-loop μ-loop
-error-at-requires c κs = search needs
-
-same-length : tie.Need-same-length Inv-loop μ-loop
-same-length c = search needs
+    let s = c .before .before .before in
+    (passing-first (s .pre .2), sym (taken-before (strike-taken _ _ _ _ (now (s .args .t))) (s .pre .2)), s .pre .5, refl)
 
 returns : tie.Need-returns Inv-loop μ-loop
 returns c =
     let l = c .before .before .before .before in
-    let s = l .before .before .before in
+    let s = l .before .before .before .before in
     let a = s .args in
     let es = now (a .errors) in
     let in-list : l .loop .i < length (errorsOf es) = omega (arith, error-count es) in
     let entry = error-at es (l .loop .i) (omega arith) ∙ sym (c .before .before .error-at .ensures) in
-    let end = passing-other (l .loop .inv .0) in-list (rw entry (c .if1 .taken)) (s .pre .4 .in-order) in
-    (l .loop .inv .1 ∙ sym (taken-after (strike-taken (a .d) (a .n) (errorsOf es) (a .k) (plain (a .d) (a .n) (now (a .t)))) end), l .loop .inv .2, end)
+    let end = passing-other (l .loop .inv .0) in-list (rw entry (c .if1 .taken)) (s .pre .3 .in-order) in
+    (l .loop .inv .1 ∙ sym (taken-after (strike-taken (a .d) (a .n) (errorsOf es) (a .k) (now (a .t))) end), end, l .loop .inv .2)
 
 error-rows-requires : tie.Need-error-rows-requires Inv-loop μ-loop
 error-rows-requires c κs =
     let l = c .before .before .before .before .before in
-    let s = l .before .before .before in
+    let s = l .before .before .before .before in
     let es = now (s .args .errors) in
     let in-list : l .loop .i < length (errorsOf es) = omega (arith, error-count es) in
     let entry = error-at es (l .loop .i) (omega arith) ∙ sym (c .before .before .before .error-at .ensures) in
-    (s .pre .0, s .pre .1, rw (← entry) (s .pre .4 .each (l .loop .i) in-list), l .loop .inv .2)
-
-add-i : tie.Need-add-i Inv-loop μ-loop
-add-i c = search needs
-
-loop-less : tie.Need-loop-less Inv-loop μ-loop
-loop-less c = search needs
+    (s .pre .1, rw (← entry) (s .pre .3 .each (l .loop .i) in-list), s .pre .4, valid-tableau _ _ _ (l .loop .inv .2))
 
 loop-again : tie.Need-loop-again Inv-loop μ-loop
 loop-again c =
     let r = c .before .before in
     let e = r .before .before .before .before in
     let l = e .before .before in
-    let s = l .before .before .before in
+    let s = l .before .before .before .before in
     let a = s .args in
     let es = now (a .errors) in
     let in-list : l .loop .i < length (errorsOf es) = omega (arith, error-count es) in
     let entry = error-at es (l .loop .i) (omega arith) ∙ sym (e .error-at .ensures) in
     let here : errAt (errorsOf es) (l .loop .i) .place ≡ a .k = rw entry (r .before .before .if1 .left) in
-    let taken = strike-taken (a .d) (a .n) (errorsOf es) (a .k) (plain (a .d) (a .n) (now (a .t))) in (
+    let taken = strike-taken (a .d) (a .n) (errorsOf es) (a .k) (now (a .t)) in (
       passing-more (l .loop .inv .0) in-list here,
-      rw (taken-more taken (l .loop .i) here, ← l .loop .inv .1, entry) (r .error-rows .ensures .0),
-      r .error-rows .ensures .1,
+      rw (taken-more taken (l .loop .i) here, ← l .loop .inv .1, entry) (r .error-rows .ensures),
+      rw (r .error-rows .ensures) (error-keeps-valid _ _ (dimension _ (s .pre .0)) _ (rw (← entry) (s .pre .3 .each (l .loop .i) in-list)) _ (l .loop .inv .2)),
       omega arith,
     )
-
-same-length-2 : tie.Need-same-length-2 Inv-loop μ-loop
-same-length-2 c = search needs
 
 returns-2 : tie.Need-returns-2 Inv-loop μ-loop
 returns-2 c =
     let l = c .before in
-    let s = l .before .before .before in
+    let s = l .before .before .before .before in
     let a = s .args in
     let es = now (a .errors) in
     let end = passing-last (l .loop .inv .0) (omega (arith, error-count es)) in
-    (l .loop .inv .1 ∙ sym (taken-after (strike-taken (a .d) (a .n) (errorsOf es) (a .k) (plain (a .d) (a .n) (now (a .t)))) end), l .loop .inv .2, end)
+    (l .loop .inv .1 ∙ sym (taken-after (strike-taken (a .d) (a .n) (errorsOf es) (a .k) (now (a .t))) end), end, l .loop .inv .2)
 
 pub strike-spec : {M : Type 1} → statement M
 strike-spec =
@@ -98,12 +85,12 @@ strike-spec =
     Inv-loop
     μ-loop
     loop-holds
-    error-at-requires
-    same-length
+    (λ c κs. search needs)
+    (λ c. search needs)
     returns
     error-rows-requires
-    add-i
-    loop-less
+    (λ c. search needs)
+    (λ c. search needs)
     loop-again
-    same-length-2
+    (λ c. search needs)
     returns-2)

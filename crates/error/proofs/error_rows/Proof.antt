@@ -1,88 +1,63 @@
--- `error::error_rows` meets its contract.
+-- `error::error_rows` meets its contract. The loop's invariant: the rows below i are done.
 -- Assumes nothing.
+use mathlib.Core.Path.{_≡_, refl}
+use Prim.Native.Nat.{_+_, _-_, _*_, _≤_}
 use native.Mathlib.Omega.{arith}
-use borrow.Author.Needs.{needs}
-use Rattle.modular.proofs.Listed.{dimension}
-use Rattle.tables.proofs.Tables.{zeros}
-use Rattle.operation.proofs.Operands.{error-facts}
-use Rattle.validity.proofs.Exactly.{valid-tableau}
-use Rattle.keeping.proofs.Keeping.{error-keeps-valid}
-use Rattle.error.proofs.Even.{rows-plain}
+use lib.ListN.{length}
+use Rattle.tableau.specs.Tableau.{eachRow, every}
+use Rattle.tableau.proofs.Parts.{each-more, each-all, turn-room, turn-row}
+use Rattle.operation.specs.Error.{errorRow}
+use Rattle.operation.proofs.Error.{error-keeps}
 use Rattle.error.proofs.error_rows.Statement.{statement}
 use Rattle.error.proofs.error_rows.Tie as tie
 
-slice-aggregate-make-table : tie.Need-slice-aggregate-make-table
-slice-aggregate-make-table c = search needs
+abbrev Inv-loop : tie.InvT-loop
+Inv-loop t₀ e tables d n rows i₀ t i =
+    (i ≤ rows) × (length t ≡ length t₀) × (t ≡ eachRow (every (errorRow d n e)) (2 * n + 1) t₀ i)
 
-make-table-requires : tie.Need-make-table-requires
-make-table-requires c κs = let dim = dimension _ (c .before .before .pre .0) in (dim .low, dim .high, omega arith, omega arith, zeros _ 96)
+abbrev μ-loop : tie.MeasureT-loop
+μ-loop t₀ e tables d n rows i₀ t i = rows - i
 
-slice-aggregate-make-table-2 : tie.Need-slice-aggregate-make-table-2
-slice-aggregate-make-table-2 c = search needs
+loop-holds : tie.Need-loop-holds Inv-loop μ-loop
+unfolding eachRow
+loop-holds c = (omega arith, refl, refl)
 
-make-table-requires-2 : tie.Need-make-table-requires-2
-make-table-requires-2 c κs =
+error-at-requires : tie.Need-error-at-requires Inv-loop μ-loop
+error-at-requires c κs =
     let s = c .before .before .before .before .before in
-    let dim = dimension _ (s .pre .0) in
-    let f = error-facts _ _ (s .args .e) (s .pre .2) in
-    (dim .low, dim .high, omega arith, omega (arith, dim .high), zeros _ 32)
-
-slice-aggregate-make-table-3 : tie.Need-slice-aggregate-make-table-3
-slice-aggregate-make-table-3 c = search needs
-
-sub-make-table : tie.Need-sub-make-table
-sub-make-table c = let s = c .before .before .before .before .before .before .before .before .before in omega (arith, error-facts _ _ (s .args .e) (s .pre .2) .1)
-
-make-table-requires-3 : tie.Need-make-table-requires-3
-make-table-requires-3 c κs =
-    let dim = dimension _ (c .before .before .before .before .before .before .before .before .before .pre .0) in
-    (dim .low, dim .high, omega arith, omega (arith, dim .high), zeros _ 32)
-
-slice-aggregate-error-all : tie.Need-slice-aggregate-error-all
-slice-aggregate-error-all c = search needs
-
-slice-aggregate-error-all-2 : tie.Need-slice-aggregate-error-all-2
-slice-aggregate-error-all-2 c = search needs
-
-slice-aggregate-error-all-3 : tie.Need-slice-aggregate-error-all-3
-slice-aggregate-error-all-3 c = search needs
-
-error-all-requires : tie.Need-error-all-requires
-error-all-requires c κs =
-    let s = c .before .before .before .before .before .before .before .before .before .before .before .before .before .before .before in (
-      dimension _ (s .pre .0) .high,
+    let l = c .before .before .loop in
+    let k = error-keeps (s .args .d) (s .args .n) (s .args .e) in (
+      turn-room _ _ _ k _ (s .pre .3) (l .i) (omega arith) _ (l .inv .2),
       s .pre .1,
+      turn-row _ _ _ k _ (s .pre .3) (l .i) (omega arith) _ (l .inv .2),
       s .pre .2,
-      valid-tableau _ _ _ (s .pre .3),
-      record { sums = c .before .before .before .before .before .before .before .before .before .before .before .before .make-table .ensures; gains = c .before .before .before .before .before .before .before .before .before .make-table2 .ensures; losses = c .before .before .before .before .before .make-table3 .ensures },
     )
 
-same-length : tie.Need-same-length
-same-length c = search needs
+loop-again : tie.Need-loop-again Inv-loop μ-loop
+loop-again c = (
+  omega arith,
+  omega arith,
+  each-more _ _ _ _ _ _ (c .before .before .before .before .before .loop .inv .2) (c .before .before .error-at .ensures),
+)
 
-returns : tie.Need-returns
+same-length : tie.Need-same-length Inv-loop μ-loop
+same-length c = c .before .loop .inv .1
+
+returns : tie.Need-returns Inv-loop μ-loop
 returns c =
-    let s = c .before .before .before .before .before .before .before .before .before .before .before .before .before .before .before .before .before .before in
-    let dim = dimension _ (s .pre .0) in
-    let e = c .before .before .error-all .ensures in (
-      rw e (rows-plain _ _ dim (s .args .e) (s .pre .2) _ (s .pre .3)),
-      rw e (error-keeps-valid _ _ dim (s .args .e) (s .pre .2) _ (s .pre .3)),
-    )
+    each-all _ _ _ _ _ _ (c .before .loop .inv .2) (c .before .loop .inv .0) (c .loop-test .left)
 
 pub error-rows-spec : {M : Type 1} → statement M
 error-rows-spec =
     tie.close
     (tie.spec
-    slice-aggregate-make-table
-    make-table-requires
-    slice-aggregate-make-table-2
-    make-table-requires-2
-    slice-aggregate-make-table-3
-    sub-make-table
-    make-table-requires-3
-    slice-aggregate-error-all
-    slice-aggregate-error-all-2
-    slice-aggregate-error-all-3
-    error-all-requires
+    Inv-loop
+    μ-loop
+    (λ c. omega arith)
+    loop-holds
+    error-at-requires
+    (λ c. omega arith)
+    (λ c. omega arith)
+    loop-again
     same-length
     returns)

@@ -10,12 +10,6 @@ use Rattle.tableau.proofs.Parts.{take-replicate}
 use Rattle.framed.proofs.run.Statement.{statement}
 use Rattle.framed.proofs.run.Tie as tie
 
-mul-powers : tie.Need-mul-powers
-mul-powers c = search needs
-
-array-borrow-prefix-frame : tie.Need-array-borrow-prefix-frame
-array-borrow-prefix-frame c = search needs
-
 slice-aggregate-run-in : tie.Need-slice-aggregate-run-in
 slice-aggregate-run-in c =
     let s = c .before .before .before .before .before .before .before .before .before .before .before .before in
@@ -27,31 +21,16 @@ run-in-requires c κs =
     let p = s .pre in
     (p .0, p .1, p .2, p .3, take-replicate 0 (2 * s .args .n) 128 (omega arith), p .4)
 
-same-length : tie.Need-same-length
-same-length c = search needs
-
-same-length-2 : tie.Need-same-length-2
-same-length-2 c = search needs
-
-same-length-3 : tie.Need-same-length-3
-same-length-3 c = search needs
-
-same-length-4 : tie.Need-same-length-4
-same-length-4 c = search needs
-
-returns : tie.Need-returns
-returns c = search needs
-
 pub run-spec : {M : Type 1} → statement M
 run-spec =
     tie.close
     (tie.spec
-    mul-powers
-    array-borrow-prefix-frame
+    (λ c. search needs)
+    (λ c. search needs)
     slice-aggregate-run-in
     run-in-requires
-    same-length
-    same-length-2
-    same-length-3
-    same-length-4
-    returns)
+    (λ c. search needs)
+    (λ c. search needs)
+    (λ c. search needs)
+    (λ c. search needs)
+    (λ c. search needs))

@@ -4,74 +4,73 @@ use mathlib.Core.Path.{ap, _∙_}
 use native.Mathlib.Omega.{arith}
 use denote.Ref.{now}
 use lib.ListN.{length}
-use borrow.Author.Needs.{needs}
 use Rattle.modular.proofs.Listed.{dimension}
+use Rattle.validity.proofs.Exactly.{valid-tableau}
 use Rattle.circuit.specs.Circuit.{measured}
 use Rattle.book.specs.Decoded.{operationsOf, errorsOf}
 use Rattle.run.proofs.Frames.{no-frame}
+use Rattle.carrying.proofs.Books.{without-errors}
 use Rattle.framed.proofs.Ends.{run-ends}
+use borrow.Author.Needs.{needs}
 use Rattle.framed.proofs.run_in.Statement.{statement}
 use Rattle.framed.proofs.run_in.Tie as tie
 
+run-requires : tie.Need-run-requires
+run-requires c κs =
+    let p = c .before .before .before .before .before .before .before .before .before .before .pre in
+    (p .0 .dimension, p .0 .qudits, without-errors (p .0 .lists), p .1, p .5)
+
 carry-requires : tie.Need-carry-requires
 carry-requires c κs =
-    let s = c .before .before .before .before .before .before .before .before .before .before .before in
-    let dim = dimension (s .args .d) (s .pre .0 .dimension) in
-    (s .pre .0, s .pre .1, rw (s .pre .4) (no-frame (s .args .d) (s .args .n) (omega arith) .powers), s .pre .5)
+    let s = c .before .before .before .before .before .before .before .before .before .before .before .before .before .before .before .before .before in
+    let dim = dimension (s .args .d) (s .pre .0 .dimension) in (
+      s .pre .0 .dimension,
+      s .pre .0 .lists .operations,
+      s .pre .0 .lists .strikes,
+      omega (arith, s .pre .1, s .pre .0 .lists .one-each),
+      rw (s .pre .4) (no-frame (s .args .d) (s .args .n) (omega arith) .powers),
+    )
 
 finish-requires : tie.Need-finish-requires
 finish-requires c κs =
-    let v = c .before .before .before .before .before .before .before .before .before .before in
-    let s = v .before .before .before .before .before .before .before .before .before .before .before .before in
-    let dim = dimension (s .args .d) (s .pre .0 .dimension) in
-    let after = v .carry .ensures in (
-      omega arith,
+    let v = c .before .before .before .before .before .before .before .before in
+    let r = v .before .before .before .before .before .before .before in
+    let s = r .before .before .before .before .before .before .before .before .before .before .before in
+    let dim = dimension (s .args .d) (s .pre .0 .dimension) in (
+      dim .low,
       dim .high,
       s .pre .0 .qudits,
       s .pre .2,
       s .pre .3,
-      after .2,
-      after .3,
-      after .4 ∙ ap length (s .pre .4) ∙ no-frame (s .args .d) (s .args .n) (omega arith) .len,
+      valid-tableau _ _ _ (r .run .ensures .2),
+      v .carry .ensures .2,
+      v .carry .ensures .3 ∙ ap length (s .pre .4) ∙ no-frame (s .args .d) (s .args .n) (omega arith) .len,
     )
-
-same-length : tie.Need-same-length
-same-length c = search needs
-
-same-length-2 : tie.Need-same-length-2
-same-length-2 c = search needs
-
-same-length-3 : tie.Need-same-length-3
-same-length-3 c = search needs
-
-same-length-4 : tie.Need-same-length-4
-same-length-4 c = search needs
-
-same-length-5 : tie.Need-same-length-5
-same-length-5 c = search needs
 
 returns : tie.Need-returns
 returns c =
     let f = c .before .before .before .before .before .before in
-    let v = f .before .before .before .before .before .before .before .before .before .before .before in
-    let s = v .before .before .before .before .before .before .before .before .before .before .before .before in
+    let v = f .before .before .before .before .before .before .before .before .before in
+    let r = v .before .before .before .before .before .before .before in
+    let s = r .before .before .before .before .before .before .before .before .before .before .before in
     let a = s .args in
     let ops = operationsOf (a .d) (a .n) (now (a .ops)) in
     let after = v .carry .ensures in
     let e = f .finish .ensures in
     run-ends (a .d) (a .n) ops (errorsOf (now (a .errors))) (now (a .choices)) (measured ops (length ops))
-    (record { tableau = now (a .t); results = now (a .results); shifts = now (a .shifts); frame = now (a .out) }) (s .pre .4)
-    (after .0) (after .1) (e .0) (e .1) (e .2) (e .3)
+    (record { tableau = now (a .t); results = now (a .results); shifts = now (a .shifts); frame = now (a .out) })
+    (omega (arith, s .pre .1, s .pre .0 .lists .one-each)) (r .run .ensures .1) (r .run .ensures .0) (s .pre .4) (after .0) (after .1) (e .0) (e .1) (e .2) (e .3)
 
 pub run-in-spec : {M : Type 1} → statement M
 run-in-spec =
     tie.close
     (tie.spec
+    run-requires
     carry-requires
     finish-requires
-    same-length
-    same-length-2
-    same-length-3
-    same-length-4
-    same-length-5
+    (λ c. search needs)
+    (λ c. search needs)
+    (λ c. search needs)
+    (λ c. search needs)
+    (λ c. search needs)
     returns)

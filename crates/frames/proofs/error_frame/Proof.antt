@@ -41,9 +41,6 @@ slice-write-frame-2 c =
     let s = c .before .before .before .before .before in
     simp length-set (omega (arith, error-facts _ _ (s .args .e) (s .pre .1) .0))
 
-same-length : tie.Need-same-length
-same-length c = search needs
-
 returns : tie.Need-returns
 unfolding errorFrame
 returns c =
@@ -65,5 +62,5 @@ error-frame-spec =
     slice-write-frame
     add-frame
     slice-write-frame-2
-    same-length
+    (λ c. search needs)
     returns)

@@ -6,29 +6,11 @@ use Rattle.operation.specs.Gate.{gatePowers}
 use Rattle.frames.proofs.phase_gate_powers.Statement.{statement}
 use Rattle.frames.proofs.phase_gate_powers.Tie as tie
 
-add-add : tie.Need-add-add
-add-add c = search needs
-
-slice-read-add : tie.Need-slice-read-add
-slice-read-add c = search needs
-
-slice-read-add-2 : tie.Need-slice-read-add-2
-slice-read-add-2 c = search needs
-
 add-requires : tie.Need-add-requires
 add-requires c κs =
     let s = c .before .before .before in
     let v = s .pre .2 in
     (s .pre .1, v .below _ (omega arith), v .below _ (omega arith))
-
-add-v : tie.Need-add-v
-add-v c = search needs
-
-slice-write-v : tie.Need-slice-write-v
-slice-write-v c = search needs
-
-same-length : tie.Need-same-length
-same-length c = search needs
 
 returns : tie.Need-returns
 unfolding gatePowers
@@ -38,11 +20,11 @@ pub phase-gate-powers-spec : {M : Type 1} → statement M
 phase-gate-powers-spec =
     tie.close
     (tie.spec
-    add-add
-    slice-read-add
-    slice-read-add-2
+    (λ c. search needs)
+    (λ c. search needs)
+    (λ c. search needs)
     add-requires
-    add-v
-    slice-write-v
-    same-length
+    (λ c. search needs)
+    (λ c. search needs)
+    (λ c. search needs)
     returns)

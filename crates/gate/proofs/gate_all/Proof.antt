@@ -6,20 +6,18 @@ use native.Mathlib.Omega.{arith}
 use lib.ListN.{length}
 use Rattle.tableau.specs.Tableau.{eachRow, every}
 use Rattle.tableau.proofs.Parts.{each-more, each-all, turn-room, turn-row}
-use Rattle.gate.specs.Even.{evenGateRow}
-use Rattle.gate.proofs.Even.{even-keeps}
+use Rattle.operation.specs.Gate.{gateRow}
+use Rattle.operation.proofs.Gate.{gate-keeps}
+use Rattle.gate.specs.Numbered.{numbered}
 use Rattle.gate.proofs.gate_all.Statement.{statement}
 use Rattle.gate.proofs.gate_all.Tie as tie
 
 abbrev Inv-loop : tie.InvT-loop
-Inv-loop t₀ operation times fractions d n rows i₀ t i =
-    (i ≤ rows) × (length t ≡ length t₀) × (t ≡ eachRow (every (evenGateRow d n operation)) (2 * n + 1) t₀ i)
+Inv-loop t₀ code x y u f tables d n rows i₀ t i =
+    (i ≤ rows) × (length t ≡ length t₀) × (t ≡ eachRow (every (gateRow d n (numbered code x y u))) (2 * n + 1) t₀ i)
 
 abbrev μ-loop : tie.MeasureT-loop
-μ-loop t₀ operation times fractions d n rows i₀ t i = rows - i
-
-mul-rows : tie.Need-mul-rows Inv-loop μ-loop
-mul-rows c = omega arith
+μ-loop t₀ code x y u f tables d n rows i₀ t i = rows - i
 
 loop-holds : tie.Need-loop-holds Inv-loop μ-loop
 unfolding eachRow
@@ -27,21 +25,16 @@ loop-holds c = (omega arith, refl, refl)
 
 gate-at-requires : tie.Need-gate-at-requires Inv-loop μ-loop
 gate-at-requires c κs =
-    let s = c .before .before .before .before .before .before in
+    let s = c .before .before .before .before .before in
+    let a = s .args in
     let l = c .before .before .loop in
-    let k = even-keeps (s .args .d) (s .args .n) (s .args .operation) in (
+    let k = gate-keeps (a .d) (a .n) (numbered (a .code) (a .x) (a .y) (a .u)) in (
       turn-room _ _ _ k _ (s .pre .3) (l .i) (omega arith) _ (l .inv .2),
+      s .pre .1,
       s .pre .2,
-      s .pre .0,
       turn-row _ _ _ k _ (s .pre .3) (l .i) (omega arith) _ (l .inv .2),
       s .pre .4,
     )
-
-add-i : tie.Need-add-i Inv-loop μ-loop
-add-i c = omega arith
-
-loop-less : tie.Need-loop-less Inv-loop μ-loop
-loop-less c = omega arith
 
 loop-again : tie.Need-loop-again Inv-loop μ-loop
 loop-again c = (
@@ -54,7 +47,8 @@ same-length : tie.Need-same-length Inv-loop μ-loop
 same-length c = c .before .loop .inv .1
 
 returns : tie.Need-returns Inv-loop μ-loop
-returns c = each-all _ _ _ _ _ _ (c .before .loop .inv .2) (c .before .loop .inv .0) (c .loop-test .left)
+returns c =
+    each-all _ _ _ _ _ _ (c .before .loop .inv .2) (c .before .loop .inv .0) (c .loop-test .left)
 
 pub gate-all-spec : {M : Type 1} → statement M
 gate-all-spec =
@@ -62,11 +56,11 @@ gate-all-spec =
     (tie.spec
     Inv-loop
     μ-loop
-    mul-rows
+    (λ c. omega arith)
     loop-holds
     gate-at-requires
-    add-i
-    loop-less
+    (λ c. omega arith)
+    (λ c. omega arith)
     loop-again
     same-length
     returns)

@@ -1,86 +1,97 @@
 -- `gate::gate_rows` meets its contract.
 -- Assumes nothing.
-use native.Mathlib.Omega.{arith}
+use mathlib.Core.Path.{sym}
 use borrow.Author.Needs.{needs}
-use Rattle.modular.proofs.Listed.{dimension}
-use Rattle.validity.proofs.Exactly.{valid-tableau}
-use Rattle.gate.proofs.Even.{rows-plain, rows-valid}
-use Rattle.tables.proofs.Tables.{zeros}
-use Rattle.gate.proofs.Tables.{factor-small, fraction-small}
+use Rattle.modular.proofs.Listed.{inverse-zero}
+use Rattle.gate.proofs.Rows.{measure-none}
 use Rattle.gate.proofs.gate_rows.Statement.{statement}
 use Rattle.gate.proofs.gate_rows.Tie as tie
 
-slice-aggregate-make-table : tie.Need-slice-aggregate-make-table
-slice-aggregate-make-table c = search needs
-
-factor-of-requires : tie.Need-factor-of-requires
-factor-of-requires c κs = search needs
-
-make-table-requires : tie.Need-make-table-requires
-make-table-requires c κs =
-    let s = c .before .before .before in
-    let dim = dimension _ (s .pre .0) in
-    let l = factor-small dim (s .args .n) (s .args .operation) (s .pre .2) in
-    (dim .low, dim .high, omega arith, omega (arith, dim .high, c .factor-of .ensures), zeros _ 64)
-
-slice-aggregate-make-table-2 : tie.Need-slice-aggregate-make-table-2
-slice-aggregate-make-table-2 c = search needs
-
-fraction-of-requires : tie.Need-fraction-of-requires
-fraction-of-requires c κs =
-    let s = c .before .before .before .before .before .before in
-    (s .pre .0, factor-small (dimension _ (s .pre .0)) (s .args .n) (s .args .operation) (s .pre .2))
-
-make-table-requires-2 : tie.Need-make-table-requires-2
-make-table-requires-2 c κs =
-    let s = c .before .before .before .before .before .before .before in
-    let dim = dimension _ (s .pre .0) in
-    let l = fraction-small dim (s .args .operation) in
-    (dim .low, dim .high, omega arith, omega (arith, dim .high, c .fraction-of .ensures), zeros _ 32)
-
-slice-aggregate-gate-all : tie.Need-slice-aggregate-gate-all
-slice-aggregate-gate-all c = search needs
-
-slice-aggregate-gate-all-2 : tie.Need-slice-aggregate-gate-all-2
-slice-aggregate-gate-all-2 c = search needs
-
 gate-all-requires : tie.Need-gate-all-requires
 gate-all-requires c κs =
-    let s = c .before .before .before .before .before .before .before .before .before .before .before .before in (
-      dimension _ (s .pre .0) .high,
-      s .pre .1,
-      s .pre .2,
-      valid-tableau _ _ _ (s .pre .3),
-      record {
-        first = rw (← c .before .before .before .before .before .before .before .before .before .factor-of .ensures) (c .before .before .before .before .before .before .before .before .make-table .ensures);
-        second = rw (← c .before .before .before .before .before .fraction-of .ensures) (c .before .before .before .before .make-table2 .ensures);
-      },
-    )
+    let s = c .before .before .before .before .before .before in
+    (s .pre .0, rw (c .before .before .operation .given .1) at (s .pre .1), sym (inverse-zero _ (s .pre .2 .low)), s .pre .3, s .pre .2)
 
-same-length : tie.Need-same-length
-same-length c = search needs
+gate-all-requires-2 : tie.Need-gate-all-requires-2
+gate-all-requires-2 c κs =
+    let s = c .before .before .before .before .before .before in
+    (s .pre .0, rw (c .before .before .operation2 .given .1) at (s .pre .1), sym (inverse-zero _ (s .pre .2 .low)), s .pre .3, s .pre .2)
+
+gate-all-requires-3 : tie.Need-gate-all-requires-3
+gate-all-requires-3 c κs =
+    let s = c .before .before .before .before .before .before in
+    (s .pre .0, rw (c .before .before .operation3 .given .1) at (s .pre .1), sym (inverse-zero _ (s .pre .2 .low)), s .pre .3, s .pre .2)
+
+gate-all-requires-4 : tie.Need-gate-all-requires-4
+gate-all-requires-4 c κs =
+    let s = c .before .before .before .before .before .before in
+    (s .pre .0, rw (c .before .before .operation4 .given .1) at (s .pre .1), sym (inverse-zero _ (s .pre .2 .low)), s .pre .3, s .pre .2)
+
+gate-all-requires-5 : tie.Need-gate-all-requires-5
+gate-all-requires-5 c κs =
+    let s = c .before .before .before .before .before .before in
+    (s .pre .0, rw (c .before .before .operation5 .given .1) at (s .pre .1), sym (inverse-zero _ (s .pre .2 .low)), s .pre .3, s .pre .2)
+
+gate-all-requires-6 : tie.Need-gate-all-requires-6
+gate-all-requires-6 c κs =
+    let s = c .before .before .before .before .before .before .before in
+    (s .pre .0, rw (c .before .before .before .operation6 .given .1) at (s .pre .1), c .before .inverse .ensures, s .pre .3, s .pre .2)
+
+enum-told : tie.Need-enum-told
+enum-told c = search needs
 
 returns : tie.Need-returns
-returns c =
-    let s = c .before .before .before .before .before .before .before .before .before .before .before .before .before .before .before in
-    let dim = dimension _ (s .pre .0) in
-    let e = c .before .before .gate-all .ensures in (
-      rw e (rows-plain _ _ dim (s .args .operation) (s .pre .2) _ (s .pre .3)),
-      rw e (rows-valid _ _ dim (s .args .operation) (s .pre .2) _ (s .pre .3)),
-    )
+returns c = rw (c .before .before .before .before .before .operation .given .1) (c .before .before .gate-all .ensures)
+
+returns-2 : tie.Need-returns-2
+returns-2 c = rw (c .before .before .before .before .before .operation2 .given .1) (c .before .before .gate-all2 .ensures)
+
+returns-3 : tie.Need-returns-3
+returns-3 c = rw (c .before .before .before .before .before .operation3 .given .1) (c .before .before .gate-all3 .ensures)
+
+returns-4 : tie.Need-returns-4
+returns-4 c = rw (c .before .before .before .before .before .operation4 .given .1) (c .before .before .gate-all4 .ensures)
+
+returns-5 : tie.Need-returns-5
+returns-5 c = rw (c .before .before .before .before .before .operation5 .given .1) (c .before .before .gate-all5 .ensures)
+
+returns-6 : tie.Need-returns-6
+returns-6 c = rw (c .before .before .before .before .before .before .operation6 .given .1) (c .before .before .gate-all6 .ensures)
+
+returns-7 : tie.Need-returns-7
+returns-7 c =
+    let s = c .before .before .before .before in
+    let e = c .enum-told .given .1 in
+    rw e (sym (measure-none _ _ _ (s .pre .3) _ (rw e at (s .pre .1))))
 
 pub gate-rows-spec : {M : Type 1} → statement M
 gate-rows-spec =
     tie.close
     (tie.spec
-    slice-aggregate-make-table
-    factor-of-requires
-    make-table-requires
-    slice-aggregate-make-table-2
-    fraction-of-requires
-    make-table-requires-2
-    slice-aggregate-gate-all
-    slice-aggregate-gate-all-2
+    (λ c. search needs)
     gate-all-requires
-    same-length
-    returns)
+    (λ c. search needs)
+    gate-all-requires-2
+    (λ c. search needs)
+    gate-all-requires-3
+    (λ c. search needs)
+    gate-all-requires-4
+    (λ c. search needs)
+    gate-all-requires-5
+    (λ c. search needs)
+    (λ c κs. let t = c .before .before .before .before .before .pre .2 in (t .low, t .high))
+    gate-all-requires-6
+    enum-told
+    (λ c. search needs)
+    returns
+    (λ c. search needs)
+    returns-2
+    (λ c. search needs)
+    returns-3
+    (λ c. search needs)
+    returns-4
+    (λ c. search needs)
+    returns-5
+    (λ c. search needs)
+    returns-6
+    returns-7)

@@ -5,7 +5,7 @@ use Prim.Native.Nat.{_-_}
 use native.Mathlib.Omega.{arith}
 use borrow.Author.Needs.{needs}
 use Rattle.modular.specs.Dimension.{powerOf}
-use Rattle.modular.proofs.Listed.{dimension, inverse-below, inverse-past}
+use Rattle.modular.proofs.Listed.{inverse-below, inverse-past}
 use Rattle.inverse.proofs.inverse.Statement.{statement}
 use Rattle.inverse.proofs.inverse.Tie as tie
 
@@ -13,7 +13,7 @@ returns : tie.Need-returns
 returns c = sym (inverse-past (c .before .args .d) (c .before .args .u) (omega arith))
 
 reciprocal-requires : tie.Need-reciprocal-requires
-reciprocal-requires c κs = let dim = dimension _ (c .before .pre) in (dim .low, dim .high)
+reciprocal-requires c κs = c .before .pre
 
 sub-power : tie.Need-sub-power
 sub-power c = search needs

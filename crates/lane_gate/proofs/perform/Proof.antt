@@ -5,7 +5,6 @@ use mathlib.Core.Logic.{_≢_}
 use mathlib.Core.Bool.{true}
 use mathlib.Core.List.{List}
 use Prim.Native.Nat.{ℕ, _+_, _*_, _/_, _<_, _≤_}
-use native.Mathlib.Decide.{ℕ-discrete}
 use native.Mathlib.Omega.{arith}
 use denote.Ref.{now}
 use lib.ListN.{length, getD}
@@ -21,7 +20,7 @@ use Rattle.book.specs.Decoded.{operationsOf}
 use Rattle.book.proofs.Lists.{op-count}
 use Rattle.lanes.specs.Lanes.{lane, Lanes, Each}
 use Rattle.lanes.proofs.Lanes.{each-lanes}
-use Rattle.lane_gate.proofs.Codes.{code-0, code-1, code-2, code-3, code-4, code-5, code-6, code-none}
+use Rattle.codes.proofs.Codes.{code-0, code-1, code-2, code-3, code-4, code-5, code-rest}
 use borrow.Author.Needs.{needs}
 use Rattle.lane_gate.proofs.perform.Statement.{statement}
 use Rattle.lane_gate.proofs.perform.Tie as tie
@@ -34,41 +33,7 @@ neither : (d n : ℕ) (ops : List ℕ) (k : ℕ) → k < length ops / 4 → allo
     → (((((Unit {0} × (getD ops (4 * k) 0 ≢ 0)) × (getD ops (4 * k) 0 ≢ 1)) × (getD ops (4 * k) 0 ≢ 2)) × (getD ops (4 * k) 0 ≢ 3)) × (getD ops (4 * k) 0 ≢ 4)) × (getD ops (4 * k) 0 ≢ 5)
     → (F : List ℕ) → gateFrame d n (opAt (operationsOf d n ops) k) F ≡ F
 unfolding gatePowers
-neither d n ops k l h x F = by (ℕ-discrete (getD ops (4 * k) 0) 6)
-  where
-    by : Dec (getD ops (4 * k) 0 ≡ 6) → gateFrame d n (opAt (operationsOf d n ops) k) F ≡ F
-    by (yes e) = rw (code-6 d n ops k l h e)
-    by (no e) = absurd (code-none d n ops k l h (x, e))
-
-mul-at : tie.Need-mul-at
-mul-at c = search needs
-
-shared-slice-read-code : tie.Need-shared-slice-read-code
-shared-slice-read-code c = search needs
-
-add-wide : tie.Need-add-wide
-add-wide c = search needs
-
-shared-slice-read-wide : tie.Need-shared-slice-read-wide
-shared-slice-read-wide c = search needs
-
-wide-requires : tie.Need-wide-requires
-wide-requires c κs = search needs
-
-add-wide-2 : tie.Need-add-wide-2
-add-wide-2 c = search needs
-
-shared-slice-read-wide-2 : tie.Need-shared-slice-read-wide-2
-shared-slice-read-wide-2 c = search needs
-
-wide-requires-2 : tie.Need-wide-requires-2
-wide-requires-2 c κs = search needs
-
-add-u : tie.Need-add-u
-add-u c = search needs
-
-shared-slice-read-u : tie.Need-shared-slice-read-u
-shared-slice-read-u c = search needs
+neither d n ops k l h x F = rw (code-rest d n ops k l h x)
 
 fourier-lanes-requires : tie.Need-fourier-lanes-requires
 fourier-lanes-requires c κs =
@@ -133,9 +98,6 @@ swap-lanes-requires c κs =
 reciprocal-requires : tie.Need-reciprocal-requires
 reciprocal-requires c κs = let h = dimension _ (c .before .before .before .before .before .before .before .before .before .pre .2) in (h .low, h .high)
 
-inverse-requires : tie.Need-inverse-requires
-inverse-requires c κs = search needs
-
 multiplier-lanes-requires : tie.Need-multiplier-lanes-requires
 multiplier-lanes-requires c κs =
     let s = c .before .before .before .before .before .before .before .before .before .before .before .before in
@@ -149,9 +111,6 @@ multiplier-lanes-requires c κs =
     let e = c .before .inverse .ensures in
     (s .pre .1, s .pre .4, omega (arith, q, f .0), f .2, e, rw e (dimension _ (s .pre .2) .small _), c .before .before .reciprocal .ensures)
 
-same-length : tie.Need-same-length
-same-length c = search needs
-
 returns : tie.Need-returns
 returns c =
     let s = c .before .before .before .before .before .before .before .before .before .before .before .before .before in
@@ -162,9 +121,6 @@ returns c =
     let q = c .before .before .before .before .before .before .before .before .wide .ensures .0 in
     let t = c .before .before .before .before .before .before .wide2 .ensures .0 in
     both (a .d) (a .n) (opAt (operationsOf (a .d) (a .n) ops) (a .k)) (dimension _ (s .pre .2) .low) good (s .pre .4) (rw (is, ← q) (c .before .before .fourier-lanes .ensures))
-
-same-length-2 : tie.Need-same-length-2
-same-length-2 c = search needs
 
 returns-2 : tie.Need-returns-2
 returns-2 c =
@@ -177,9 +133,6 @@ returns-2 c =
     let t = c .before .before .before .before .before .before .wide2 .ensures .0 in
     both (a .d) (a .n) (opAt (operationsOf (a .d) (a .n) ops) (a .k)) (dimension _ (s .pre .2) .low) good (s .pre .4) (rw (is, ← q) (c .before .before .phase-gate-lanes .ensures))
 
-same-length-3 : tie.Need-same-length-3
-same-length-3 c = search needs
-
 returns-3 : tie.Need-returns-3
 returns-3 c =
     let s = c .before .before .before .before .before .before .before .before .before .before .before .before .before in
@@ -190,9 +143,6 @@ returns-3 c =
     let q = c .before .before .before .before .before .before .before .before .wide .ensures .0 in
     let t = c .before .before .before .before .before .before .wide2 .ensures .0 in
     both (a .d) (a .n) (opAt (operationsOf (a .d) (a .n) ops) (a .k)) (dimension _ (s .pre .2) .low) good (s .pre .4) (rw (is, ← q, ← t) (c .before .before .sum-lanes .ensures))
-
-same-length-4 : tie.Need-same-length-4
-same-length-4 c = search needs
 
 returns-4 : tie.Need-returns-4
 returns-4 c =
@@ -205,9 +155,6 @@ returns-4 c =
     let t = c .before .before .before .before .before .before .wide2 .ensures .0 in
     both (a .d) (a .n) (opAt (operationsOf (a .d) (a .n) ops) (a .k)) (dimension _ (s .pre .2) .low) good (s .pre .4) (rw (is, ← q, ← t) (c .before .before .cz-lanes .ensures))
 
-same-length-5 : tie.Need-same-length-5
-same-length-5 c = search needs
-
 returns-5 : tie.Need-returns-5
 returns-5 c =
     let s = c .before .before .before .before .before .before .before .before .before .before .before .before .before in
@@ -218,9 +165,6 @@ returns-5 c =
     let q = c .before .before .before .before .before .before .before .before .wide .ensures .0 in
     let t = c .before .before .before .before .before .before .wide2 .ensures .0 in
     both (a .d) (a .n) (opAt (operationsOf (a .d) (a .n) ops) (a .k)) (dimension _ (s .pre .2) .low) good (s .pre .4) (rw (is, ← q, ← t) (c .before .before .swap-lanes .ensures))
-
-same-length-6 : tie.Need-same-length-6
-same-length-6 c = search needs
 
 returns-6 : tie.Need-returns-6
 returns-6 c =
@@ -246,34 +190,34 @@ pub perform-spec : {M : Type 1} → statement M
 perform-spec =
     tie.close
     (tie.spec
-    mul-at
-    shared-slice-read-code
-    add-wide
-    shared-slice-read-wide
-    wide-requires
-    add-wide-2
-    shared-slice-read-wide-2
-    wide-requires-2
-    add-u
-    shared-slice-read-u
+    (λ c. search needs)
+    (λ c. search needs)
+    (λ c. search needs)
+    (λ c. search needs)
+    (λ c κs. search needs)
+    (λ c. search needs)
+    (λ c. search needs)
+    (λ c κs. search needs)
+    (λ c. search needs)
+    (λ c. search needs)
     fourier-lanes-requires
     phase-gate-lanes-requires
     sum-lanes-requires
     cz-lanes-requires
     swap-lanes-requires
     reciprocal-requires
-    inverse-requires
+    (λ c κs. search needs)
     multiplier-lanes-requires
-    same-length
+    (λ c. search needs)
     returns
-    same-length-2
+    (λ c. search needs)
     returns-2
-    same-length-3
+    (λ c. search needs)
     returns-3
-    same-length-4
+    (λ c. search needs)
     returns-4
-    same-length-5
+    (λ c. search needs)
     returns-5
-    same-length-6
+    (λ c. search needs)
     returns-6
     returns-7)

@@ -3,28 +3,17 @@
 use mathlib.Core.Path.{sym, ap, _∙_}
 use denote.Ref.{now}
 use borrow.Author.Needs.{needs}
-use Rattle.modular.specs.Modular.{neg}
 use Rattle.modular.proofs.Listed.{dimension}
 use Rattle.validity.proofs.Exactly.{valid-tableau}
 use Rattle.outcome.specs.declared.Look.the-variants.{Certain}
 use Rattle.outcome.specs.Look.{look}
-use Rattle.outcome.proofs.EvenLook.{pivot-plain}
-use Rattle.look.proofs.Sums.{phase-plain}
+use Rattle.look.proofs.Sums.{certain-outcome}
 use Rattle.look.proofs.look_at.Statement.{statement}
 use Rattle.look.proofs.look_at.Tie as tie
 
-pivot-of-requires : tie.Need-pivot-of-requires
-pivot-of-requires c κs = search needs
-
-enum-known-pivot : tie.Need-enum-known-pivot
-enum-known-pivot c = search needs
-
 returns : tie.Need-returns
 unfolding look
-returns c =
-    let s = c .before .before .before .before .before in
-    let a = s .args in
-    rw (pivot-plain (a .d) (a .n) (now (a .t)) (s .pre .3 .room) (a .q) (s .pre .1), ← c .before .before .before .pivot-of .ensures, c .before .pivot .given .1)
+returns c = rw (← c .before .before .before .pivot-of .ensures, c .before .pivot .given .1)
 
 enum-told : tie.Need-enum-told
 enum-told c = search needs
@@ -42,10 +31,10 @@ returns-2 c =
     let s = p .before .before in
     let a = s .args in
     let none = sym (p .pivot-of .ensures) ∙ c .before .enum-told .given .1 in
-    rw (pivot-plain (a .d) (a .n) (now (a .t)) (s .pre .3 .room) (a .q) (s .pre .1), none, c .certain .ensures)
-    (ap (λ x. Certain (neg (a .d) x)) (phase-plain (a .d) (a .n) (dimension _ (s .pre .0)) (now (a .t)) (s .pre .3) (a .q) (s .pre .1) none))
+    rw (none, c .certain .ensures)
+    (ap Certain (certain-outcome (a .d) (a .n) (dimension _ (s .pre .0)) (now (a .t)) (s .pre .3) (a .q) (s .pre .1) none))
 
 pub look-at-spec : {M : Type 1} → statement M
 look-at-spec =
     tie.close
-    (tie.spec pivot-of-requires enum-known-pivot returns enum-told certain-requires returns-2)
+    (tie.spec (λ c κs. search needs) (λ c. search needs) returns enum-told certain-requires returns-2)

@@ -19,18 +19,9 @@ Inv-loop t q n w k₀ k = (k ≤ n) × (firstNot (commutes n t q) k ≡ Nowhere)
 abbrev μ-loop : tie.MeasureT-loop
 μ-loop t q n w k₀ k = n - k
 
-mul-w : tie.Need-mul-w Inv-loop μ-loop
-mul-w c = omega arith
-
-add-w : tie.Need-add-w Inv-loop μ-loop
-add-w c = omega arith
-
 loop-holds : tie.Need-loop-holds Inv-loop μ-loop
 unfolding firstNot
 loop-holds c = (omega arith, refl)
-
-add-at : tie.Need-add-at Inv-loop μ-loop
-add-at c = omega arith
 
 mul-at : tie.Need-mul-at Inv-loop μ-loop
 mul-at c = let s = c .before .before in omega (arith, row-room _ (s .args .t .now) (s .pre .2) (s .args .n + c .before .loop .k) (omega arith))
@@ -51,12 +42,6 @@ returns c =
     let h : a .q < 2 * a .n + 1 = omega arith in
     found _ _ (l .k) (c .before .before .loop-test .taken) (l .inv .1) (rw row-at (ne-eqb _ _ (c .if1 .taken)))
 
-add-k : tie.Need-add-k Inv-loop μ-loop
-add-k c = omega arith
-
-loop-less : tie.Need-loop-less Inv-loop μ-loop
-loop-less c = omega arith
-
 loop-again : tie.Need-loop-again Inv-loop μ-loop
 loop-again c =
     let l = c .before .before .before .loop in
@@ -74,15 +59,15 @@ pivot-of-spec =
     (tie.spec
     Inv-loop
     μ-loop
-    mul-w
-    add-w
+    (λ c. omega arith)
+    (λ c. omega arith)
     loop-holds
-    add-at
+    (λ c. omega arith)
     mul-at
     add-at-2
     shared-slice-read-if1
     returns
-    add-k
-    loop-less
+    (λ c. omega arith)
+    (λ c. omega arith)
     loop-again
     returns-2)

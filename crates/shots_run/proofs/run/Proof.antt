@@ -15,21 +15,6 @@ use Rattle.shots_run.proofs.Separate.{told-by}
 use Rattle.shots_run.proofs.run.Statement.{statement}
 use Rattle.shots_run.proofs.run.Tie as tie
 
-mul-size : tie.Need-mul-size
-mul-size c = search needs
-
-mul-size-2 : tie.Need-mul-size-2
-mul-size-2 c = search needs
-
-add-size : tie.Need-add-size
-add-size c = search needs
-
-mul-size-3 : tie.Need-mul-size-3
-mul-size-3 c = search needs
-
-mul-bytes : tie.Need-mul-bytes
-mul-bytes c = search needs
-
 array-borrow-prefix-copy : tie.Need-array-borrow-prefix-copy
 array-borrow-prefix-copy c = let o = c .before .before .before .before .before .before in omega (arith, sized-bytes (o .args .n) (o .pre .0 .qudits))
 
@@ -55,9 +40,6 @@ run-in-requires c κs =
       o .pre .1,
     )
 
-same-length : tie.Need-same-length
-same-length c = search needs
-
 returns : tie.Need-returns
 returns c = let o = c .before .before .before .before .before .before .before .before .before .before .before .before .before in told-by (o .pre .0) (o .pre .1) (c .before .before .before .before .run-in .ensures)
 
@@ -65,15 +47,15 @@ pub run-spec : {M : Type 1} → statement M
 run-spec =
     tie.close
     (tie.spec
-    mul-size
-    mul-size-2
-    add-size
-    mul-size-3
-    mul-bytes
+    (λ c. search needs)
+    (λ c. search needs)
+    (λ c. search needs)
+    (λ c. search needs)
+    (λ c. search needs)
     array-borrow-prefix-copy
     slice-aggregate-run-in
     array-borrow-prefix-results
     slice-aggregate-run-in-2
     run-in-requires
-    same-length
+    (λ c. search needs)
     returns)

@@ -9,7 +9,7 @@ use lib.ListN.{length}
 use lib.Seq.{length-take-le}
 use Rattle.tableau.specs.Tableau.{part}
 use Rattle.lane_shots.proofs.Starting.{blank-length}
-use Rattle.shots_run.proofs.CleanRun.{loaded, bodies, copied-valid, fits-told, told}
+use Rattle.shots_run.proofs.CleanRun.{loaded, copied-valid, fits-told, told}
 use Rattle.shots_run.proofs.run_in.Statement.{statement}
 use Rattle.shots_run.proofs.run_in.Tie as tie
 
@@ -19,44 +19,32 @@ slice-aggregate-copy c = let o = c .before .before .before .before .before .befo
 copy-requires : tie.Need-copy-requires
 copy-requires c κs = let o = c .before .before .before .before .before .before .before .before .before in sym (length-take-le _ (now (o .args .t)) (omega (arith, o .pre .1, o .pre .0 .tableau .room)))
 
-slice-aggregate-run : tie.Need-slice-aggregate-run
-slice-aggregate-run c = search needs
-
 run-requires : tie.Need-run-requires
 unfolding part
 run-requires c κs =
-    let o = c .before .before .before .before .before .before .before .before .before .before .before .before .before .before .before in
+    let o = c .before .before .before .before .before .before .before .before .before .before .before .before .before .before in
     let h = o .pre .0 in (
-      bodies h,
+      h .dimension,
+      h .qudits,
+      h .circuit,
       omega (arith, ap length (o .pre .2), blank-length (2 * length (now (o .args .choices)))),
-      rw (c .before .before .before .before .before .copy .ensures, o .pre .1) (copied-valid h),
+      rw (c .before .before .before .before .copy .ensures, o .pre .1) (copied-valid h),
     )
-
-mul-fill : tie.Need-mul-fill
-mul-fill c = search needs
-
-add-fill : tie.Need-add-fill
-add-fill c = search needs
 
 fill-requires : tie.Need-fill-requires
 fill-requires c κs =
-    let o = c .before .before .before .before .before .before .before .before .before .before .before .before .before .before .before .before .before .before .before .before .before .before .before in
+    let r = c .before .before .before .before .before .before .before in
+    let y = r .before .before .before .before .before in
+    let o = y .before .before .before .before .before .before .before .before .before .before in
     let h = o .pre .0 in
-    (loaded h, fits-told h (now (o .args .copy)) _ _ _ _ _ _ (o .pre .1) (c .before .before .before .before .before .before .before .before .before .before .before .before .before .copy .ensures) (o .pre .2) (c .before .before .before .before .before .before .before .run .ensures), o .pre .3)
-
-same-length : tie.Need-same-length
-same-length c = search needs
-
-same-length-2 : tie.Need-same-length-2
-same-length-2 c = search needs
-
-same-length-3 : tie.Need-same-length-3
-same-length-3 c = search needs
+    (loaded h, fits-told h (now (o .args .copy)) _ _ _ _ (o .pre .1) (y .copy .ensures) (o .pre .2) (r .run .ensures .0), o .pre .3)
 
 returns : tie.Need-returns
 returns c =
-    let o = c .before .before .before .before .before .before .before .before .before .before .before .before .before .before .before .before .before .before .before .before .before .before .before .before .before .before in
-    told (o .pre .0) (now (o .args .copy)) _ _ _ _ _ _ (o .pre .1) (c .before .before .before .before .before .before .before .before .before .before .before .before .before .before .before .before .copy .ensures) (o .pre .2) (c .before .before .before .before .before .before .before .before .before .before .run .ensures) (c .before .before .fill .ensures)
+    let r = c .before .before .before .before .before .before .before .before .before .before in
+    let y = r .before .before .before .before .before in
+    let o = y .before .before .before .before .before .before .before .before .before .before in
+    told (o .pre .0) (now (o .args .copy)) _ _ _ _ (o .pre .1) (y .copy .ensures) (o .pre .2) (r .run .ensures .0) (c .before .before .fill .ensures)
 
 pub run-in-spec : {M : Type 1} → statement M
 run-in-spec =
@@ -64,12 +52,11 @@ run-in-spec =
     (tie.spec
     slice-aggregate-copy
     copy-requires
-    slice-aggregate-run
     run-requires
-    mul-fill
-    add-fill
+    (λ c. search needs)
+    (λ c. search needs)
     fill-requires
-    same-length
-    same-length-2
-    same-length-3
+    (λ c. search needs)
+    (λ c. search needs)
+    (λ c. search needs)
     returns)

@@ -23,18 +23,9 @@ loop-holds : tie.Need-loop-holds Inv-loop μ-loop
 unfolding all
 loop-holds c = (omega arith, refl)
 
-pairs-well-requires : tie.Need-pairs-well-requires Inv-loop μ-loop
-pairs-well-requires c κs = search needs
-
 returns : tie.Need-returns Inv-loop μ-loop
 unfolding rowValid
 returns c = sym (all-fails _ _ _ (c .before .before .loop-test .taken) (sym (c .before .pairs-well .ensures) ∙ not-true _ (c .if1 .taken)))
-
-add-j : tie.Need-add-j Inv-loop μ-loop
-add-j c = search needs
-
-loop-less : tie.Need-loop-less Inv-loop μ-loop
-loop-less c = search needs
 
 loop-again : tie.Need-loop-again Inv-loop μ-loop
 loop-again c = (omega arith, all-more _ _ (c .before .before .before .loop .inv .1) (sym (c .before .pairs-well .ensures) ∙ not-false _ (c .if1 .left)))
@@ -50,9 +41,9 @@ row-valid-spec =
     Inv-loop
     μ-loop
     loop-holds
-    pairs-well-requires
+    (λ c κs. search needs)
     returns
-    add-j
-    loop-less
+    (λ c. search needs)
+    (λ c. search needs)
     loop-again
     returns-2)

@@ -19,27 +19,12 @@ Inv-loop t d n m rows i₀ i = (i ≤ 2 * n) × (all (rowValid d n t) i ≡ true
 abbrev μ-loop : tie.MeasureT-loop
 μ-loop t d n m rows i₀ i = 2 * n - i
 
-wide-reciprocal-requires : tie.Need-wide-reciprocal-requires Inv-loop μ-loop
-wide-reciprocal-requires c κs = search needs
-
-mul-rows : tie.Need-mul-rows Inv-loop μ-loop
-mul-rows c = search needs
-
 loop-holds : tie.Need-loop-holds Inv-loop μ-loop
 unfolding all
 loop-holds c = (omega arith, refl)
 
-row-valid-requires : tie.Need-row-valid-requires Inv-loop μ-loop
-row-valid-requires c κs = search needs
-
 returns : tie.Need-returns Inv-loop μ-loop
 returns c = sym (all-fails _ _ _ (c .before .before .loop-test .taken) (sym (c .before .row-valid .ensures) ∙ not-true _ (c .if1 .taken)))
-
-add-i : tie.Need-add-i Inv-loop μ-loop
-add-i c = search needs
-
-loop-less : tie.Need-loop-less Inv-loop μ-loop
-loop-less c = search needs
 
 loop-again : tie.Need-loop-again Inv-loop μ-loop
 loop-again c = (omega arith, all-more _ _ (c .before .before .before .loop .inv .1) (sym (c .before .row-valid .ensures) ∙ not-false _ (c .if1 .left)))
@@ -53,12 +38,12 @@ rows-valid-spec =
     (tie.spec
     Inv-loop
     μ-loop
-    wide-reciprocal-requires
-    mul-rows
+    (λ c κs. search needs)
+    (λ c. search needs)
     loop-holds
-    row-valid-requires
+    (λ c κs. search needs)
     returns
-    add-i
-    loop-less
+    (λ c. search needs)
+    (λ c. search needs)
     loop-again
     returns-2)

@@ -27,15 +27,9 @@ most c = sized-most _ (qudits c)
 room : (c : tie.Else2) → let n = c .before .before .before .before .before .args .n in 2 * n * (2 * n + 1) ≤ 128 * 129
 room c = sized-bytes _ (most c)
 
-is-listed-requires : tie.Need-is-listed-requires
-is-listed-requires c κs = search needs
-
 returns : tie.Need-returns
 unfolding testNumber
 returns c = rw (sym (c .before .is-listed .ensures) ∙ not-true _ (c .if1 .taken))
-
-is-sized-requires : tie.Need-is-sized-requires
-is-sized-requires c κs = search needs
 
 returns-2 : tie.Need-returns-2
 unfolding testNumber
@@ -83,9 +77,9 @@ pub test-spec : {M : Type 1} → statement M
 test-spec =
     tie.close
     (tie.spec
-    is-listed-requires
+    (λ c κs. search needs)
     returns
-    is-sized-requires
+    (λ c κs. search needs)
     returns-2
     mul-if3
     mul-if3-2

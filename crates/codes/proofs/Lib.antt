@@ -1,0 +1,2 @@
+-- The codes of the seven operations.
+pub mod Codes
