@@ -43,17 +43,24 @@ fn main() -> Result<(), Refusal> {
 /// Fourier and a chain of SUM, then the inverse of each in reversed order, then all is measured.
 fn circuit() -> Book {
     let mut book = Book::new(D, N);
-    book.operation(Operation::Fourier { q: 0 });
+    book.operation(Operation::Fourier { q: 0, times: 1 });
     for c in 0..N - 1 {
-        book.operation(Operation::Sum { c, t: c + 1 });
+        book.operation(sum(c, 1));
     }
-    // SUM made D times is nothing, and so is Fourier made four times.
+    // SUM applied D times is nothing, and so is Fourier applied four times: the inverses are the
+    // powers before these, each in one entry.
     for c in (0..N - 1).rev() {
-        (1..D).for_each(|_| _ = book.operation(Operation::Sum { c, t: c + 1 }));
+        book.operation(sum(c, D - 1));
     }
-    (1..4).for_each(|_| _ = book.operation(Operation::Fourier { q: 0 }));
+    book.operation(Operation::Fourier { q: 0, times: 3 });
     (0..N).for_each(|q| _ = book.measure(q, 0));
     book
+}
+
+/// SUM from a qudit to the next.
+fn sum(c: u8, times: u8) -> Operation {
+    let t = c + 1;
+    Operation::Sum { c, t, times }
 }
 
 /// An error list for each shot, each error on a drawn qudit with drawn powers.

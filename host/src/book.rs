@@ -20,17 +20,34 @@ pub const MAX_ERRORS: usize = 2048;
 pub const MAX_CHOICES: usize = 4096;
 
 /// One of the seven operations. Qudits are numbered from 0.
+///
+/// Four of the gates have powers: one entry of a book applies them `times` times, and leaves what as
+/// many entries with one application leave. Their numbers end before the power that is the identity:
+/// the fourth of Fourier, the d-th of the others. So each of these gates has its inverse as a power.
+///
+/// ```
+/// use cagvost::book::Operation;
+///
+/// let thrice = Operation::Sum { c: 0, t: 1, times: 3 };
+/// assert_eq!(thrice.to_bytes(), [2, 0, 1, 3]);
+/// let once = Operation::Sum { c: 0, t: 1, times: 1 };
+/// assert_eq!(once.to_bytes(), [2, 0, 1, 0]); // once is written as 0
+/// ```
 #[derive(Clone, Copy, Debug, PartialEq, Eq, Hash)]
 pub enum Operation {
     /// The Fourier gate.
     Fourier {
         /// The qudit.
         q: u8,
+        /// How often it is applied: 1, 2 or 3.
+        times: u8,
     },
     /// The phase gate: level j gains the phase ω^(j(j−1)/2).
     PhaseGate {
         /// The qudit.
         q: u8,
+        /// How often it is applied, from 1 to d − 1.
+        times: u8,
     },
     /// Adds the level of `c` to that of `t`.
     Sum {
@@ -38,6 +55,8 @@ pub enum Operation {
         c: u8,
         /// The target.
         t: u8,
+        /// How often it is applied, from 1 to d − 1.
+        times: u8,
     },
     /// Multiplies by ω to the product of the two levels.
     Cz {
@@ -45,6 +64,8 @@ pub enum Operation {
         c: u8,
         /// The other.
         t: u8,
+        /// How often it is applied, from 1 to d − 1.
+        times: u8,
     },
     /// Exchanges two qudits.
     Swap {
@@ -69,16 +90,41 @@ pub enum Operation {
 
 impl Operation {
     /// The four bytes of the operation in a book.
+    ///
+    /// | operation | bytes | the last byte |
+    /// |---|---|---|
+    /// | Fourier | 0, q, 0, k | 0 for once, 2 or 3 |
+    /// | phase gate | 1, q, 0, k | 0 for once, 2 to d − 1 |
+    /// | SUM | 2, c, t, k | 0 for once, 2 to d − 1 |
+    /// | CZ | 3, c, t, k | 0 for once, 2 to d − 1 |
+    /// | swap | 4, c, t, 0 | 0 |
+    /// | multiplier | 5, q, 0, u | 1 to d − 1 |
+    /// | measure | 6, q, 0, 0 | 0 |
+    ///
+    /// A gate applied no times is none of these: its last byte comes out as 1, which a run refuses
+    /// ([`Refusal::Operation`]).
+    ///
+    /// [`Refusal::Operation`]: crate::Refusal::Operation
     pub fn to_bytes(self) -> [u8; 4] {
         match self {
-            Operation::Fourier { q } => [0, q, 0, 0],
-            Operation::PhaseGate { q } => [1, q, 0, 0],
-            Operation::Sum { c, t } => [2, c, t, 0],
-            Operation::Cz { c, t } => [3, c, t, 0],
+            Operation::Fourier { q, times } => [0, q, 0, times_byte(times)],
+            Operation::PhaseGate { q, times } => [1, q, 0, times_byte(times)],
+            Operation::Sum { c, t, times } => [2, c, t, times_byte(times)],
+            Operation::Cz { c, t, times } => [3, c, t, times_byte(times)],
             Operation::Swap { c, t } => [4, c, t, 0],
             Operation::Multiplier { q, u } => [5, q, 0, u],
             Operation::Measure { q } => [6, q, 0, 0],
         }
+    }
+}
+
+/// How a number of applications is written. 0 would be read as once, so that none is written as 1,
+/// which stands for no number.
+fn times_byte(times: u8) -> u8 {
+    match times {
+        0 => 1,
+        1 => 0,
+        more => more,
     }
 }
 
@@ -110,8 +156,8 @@ impl WeylError {
 /// use cagvost::book::{Book, Operation};
 ///
 /// let mut book = Book::new(3, 2);
-/// book.operation(Operation::Fourier { q: 0 })
-///     .operation(Operation::Sum { c: 0, t: 1 })
+/// book.operation(Operation::Fourier { q: 0, times: 1 })
+///     .operation(Operation::Sum { c: 0, t: 1, times: 1 })
 ///     .strike(1, 1, 0)
 ///     .measure(0, 2)
 ///     .measure(1, 0);
@@ -217,7 +263,7 @@ impl Book {
     /// use cagvost::book::{Book, Operation};
     ///
     /// let mut book = Book::new(3, 2);
-    /// book.operation(Operation::Fourier { q: 1 }).strike(1, 2, 0).measure(1, 2);
+    /// book.operation(Operation::Fourier { q: 1, times: 1 }).strike(1, 2, 0).measure(1, 2);
     /// let [operations, errors, choices] = book.bodies();
     /// assert_eq!(operations, [0, 1, 0, 0, 6, 1, 0, 0]);
     /// assert_eq!(errors, [1, 0, 1, 2, 0]);

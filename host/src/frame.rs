@@ -83,8 +83,8 @@ pub const fn frame_len(n: usize) -> usize {
 /// use cagvost::book::{Book, Operation};
 ///
 /// let mut book = Book::new(3, 2);
-/// book.operation(Operation::Fourier { q: 0 })
-///     .operation(Operation::Sum { c: 0, t: 1 })
+/// book.operation(Operation::Fourier { q: 0, times: 1 })
+///     .operation(Operation::Sum { c: 0, t: 1, times: 1 })
 ///     .strike(1, 1, 0)
 ///     .measure(0, 2)
 ///     .measure(1, 0);

@@ -47,6 +47,42 @@
 //! # Ok::<(), cagvost::Refusal>(())
 //! ```
 //!
+//! # Powers of a gate
+//!
+//! Fourier, phase gate, SUM and CZ may be applied several times by one entry of a book: Fourier up
+//! to 3 times, the others up to d − 1 times. A run leaves every byte as if the applications were
+//! written singly. No error can strike between them: its place is before or after the whole entry.
+//!
+//! ```
+//! use cagvost::book::{Book, Operation};
+//!
+//! // Two qudits of dimension 31: an X error takes the first to level 1, and SUM adds this to the
+//! // second, thirty times.
+//! let start = Book::new(31, 2).strike(0, 1, 0).clone();
+//! let (c, t) = (0, 1);
+//! let mut power = start.clone();
+//! power.operation(Operation::Sum { c, t, times: 30 });
+//! let mut singly = start;
+//! for _ in 0..30 {
+//!     singly.operation(Operation::Sum { c, t, times: 1 });
+//! }
+//!
+//! let run = |book: &mut Book| {
+//!     let mut tableau = [0; cagvost::tableau_len(2)];
+//!     let mut results = [0; cagvost::results_len(1)];
+//!     cagvost::layer(&mut tableau, 31, 2)?;
+//!     cagvost::direct_run(&book.measure(1, 0).to_bytes(), &mut tableau, &mut results)?;
+//!     Ok::<_, cagvost::Refusal>((tableau, results))
+//! };
+//! let (tableau, results) = run(&mut power)?;
+//! assert_eq!(results, [30, 0]); // certain
+//! assert_eq!((tableau, results), run(&mut singly)?);
+//! # Ok::<(), cagvost::Refusal>(())
+//! ```
+//!
+//! In the bytes of an entry the last one is the number of applications. 0 means once, and 1 is
+//! refused, so that each power is written in one way; [`book::Operation::to_bytes`] has the table.
+//!
 //! # Carrying the errors
 //!
 //! [`frame_run`] runs the same book without touching the rows by errors: it carries them as one

@@ -196,7 +196,7 @@ mod tests {
         let mut tableau = [0; crate::tableau_len(1)];
         layer(&mut tableau, 3, 1);
         let mut book = Book::new(3, 1);
-        book.operation(Operation::Fourier { q: 0 });
+        book.operation(Operation::Fourier { q: 0, times: 1 });
         assert_eq!(direct_run(&book.to_bytes(), &mut tableau, &mut []), DONE);
         book.measure(0, 1).measure(0, 2).measure(0, 0);
         let answer = direct_run(&book.to_bytes(), &mut tableau, &mut [0; 6]);

@@ -31,7 +31,10 @@ pub enum Refusal {
         /// end is wrong. The writer names the first such body, and never 3.
         entry: usize,
     },
-    /// 5: an entry is not one of the seven operations.
+    /// 5: an entry is not one of the seven operations, of which
+    /// [`Operation::to_bytes`](crate::book::Operation::to_bytes) has the table. The last byte counts
+    /// too: a multiplier's factor, or how often another gate is applied, where 0 means once and 1 is
+    /// bad.
     Operation {
         /// The first bad operation.
         index: usize,
@@ -108,7 +111,7 @@ impl Refusal {
                 "this body (0 operations, 1 errors, 2 choices) is not of whole entries or has too many, or its entry of the table of contents has a wrong kind, zero byte or offset"
             }
             Refusal::Operation { .. } => {
-                "this entry is not one of the seven operations on the book's qudits"
+                "this entry is not one of the seven operations on the book's qudits, or its last byte is no factor or power that the operation may have"
             }
             Refusal::ErrorEntry { .. } => {
                 "this error is placed after the end or before the previous error, or its qudit or a power is too large"

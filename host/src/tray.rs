@@ -114,8 +114,8 @@ pub const fn shots_len(shots: usize, measurements: usize) -> usize {
 ///
 /// // Two qutrits: Fourier on 0, SUM from 0 to 1, then both are measured.
 /// let mut book = Book::new(3, 2);
-/// book.operation(Operation::Fourier { q: 0 })
-///     .operation(Operation::Sum { c: 0, t: 1 })
+/// book.operation(Operation::Fourier { q: 0, times: 1 })
+///     .operation(Operation::Sum { c: 0, t: 1, times: 1 })
 ///     .measure(0, 2)
 ///     .measure(1, 0);
 /// let error = |qudit, p, s| WeylError { place: 2, qudit, p, s };

@@ -15,8 +15,9 @@ pub const fn book_len(operations: &[u8], errors: &[u8], choices: &[u8]) -> usize
 /// [`book_len`]: a run wants just these, without what a longer buffer holds behind them. A refusal
 /// leaves the buffer as it was.
 ///
-/// The bodies are bytes as a book has them: four for each operation, five for each error, one for
-/// each choice. [`Book::bodies`](crate::book::Book::bodies) makes them of Rust values.
+/// The bodies are bytes as a book has them: four for each operation, of which
+/// [`Operation::to_bytes`](crate::book::Operation::to_bytes) has the table, five for each error, one
+/// for each choice. [`Book::bodies`](crate::book::Book::bodies) makes them of Rust values.
 ///
 /// ```
 /// use cagvost::Refusal;

@@ -154,8 +154,8 @@ fn draw_level_gate(rng: &mut Rng, d: u8, levels: &mut [u8]) -> Operation {
         let modulo = |x: usize| (x % at(d)) as u8;
         match gate {
             Operation::PhaseGate { .. } | Operation::Cz { .. } => {}
-            Operation::Sum { c, t } => {
-                levels[at(t)] = modulo(at(levels[at(t)]) + at(levels[at(c)]));
+            Operation::Sum { c, t, times } => {
+                levels[at(t)] = modulo(at(levels[at(t)]) + at(times) * at(levels[at(c)]));
             }
             Operation::Swap { c, t } => levels.swap(at(c), at(t)),
             Operation::Multiplier { q, u } => levels[at(q)] = modulo(at(levels[at(q)]) * at(u)),

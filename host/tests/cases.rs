@@ -24,13 +24,15 @@ fn after(d: u8, n: u8, operation: Operation, tableau: &[u8]) -> Vec<u8> {
 
 #[test]
 fn starred_1_fourier() {
-    let left = after(3, 1, Operation::Fourier { q: 0 }, &[1, 1, 0, 0, 1, 0]);
+    let fourier = Operation::Fourier { q: 0, times: 1 };
+    let left = after(3, 1, fourier, &[1, 1, 0, 0, 1, 0]);
     assert_eq!(left[..3], [2, 1, 2]);
 }
 
 #[test]
 fn starred_2_phase_gate() {
-    let left = after(3, 1, Operation::PhaseGate { q: 0 }, &[2, 0, 0, 0, 2, 0]);
+    let phase_gate = Operation::PhaseGate { q: 0, times: 1 };
+    let left = after(3, 1, phase_gate, &[2, 0, 0, 0, 2, 0]);
     assert_eq!(left[..3], [2, 2, 1]);
 }
 
@@ -42,7 +44,8 @@ fn starred_3_cz() {
         0, 0, 1, 0, 0, //
         0, 0, 2, 1, 0, //
     ];
-    let left = after(3, 2, Operation::Cz { c: 0, t: 1 }, &tableau);
+    let (c, t, times) = (0, 1, 1);
+    let left = after(3, 2, Operation::Cz { c, t, times }, &tableau);
     assert_eq!(left[..5], [1, 1, 1, 1, 1]);
 }
 
@@ -69,7 +72,8 @@ fn starred_8_certain() {
 #[test]
 fn starred_9_free() {
     let mut book = Book::new(3, 1);
-    book.operation(Operation::Fourier { q: 0 }).measure(0, 2);
+    book.operation(Operation::Fourier { q: 0, times: 1 })
+        .measure(0, 2);
     let (left, results) = run(&book, &zero_tableau(1));
     assert_eq!(results, [2, 1]);
     assert_eq!(left, [1, 0, 0, 0, 1, 1]);

@@ -7,8 +7,8 @@ mod common;
 use cagvost::Verdict;
 use cagvost::book::{Book, DIMENSIONS, Operation, WeylError};
 use common::dense::State;
-use common::{Rng, Shape, UNWRITTEN, Verdicts, paper_book};
-use common::{draw_book, draw_error, every_factor, times, without_errors, zero_tableau};
+use common::{Rng, Shape, UNWRITTEN, Verdicts, paper_book, with_times};
+use common::{cz, draw_book, draw_error, every_factor, sum, times, without_errors, zero_tableau};
 
 /// Rounding in a run of some dozens of gates stays far below, 1/d and a root's step far above.
 const CLOSE: f64 = 1e-9;
@@ -316,8 +316,8 @@ fn every_error(d: u8, n: u8, operations: usize) -> impl Iterator<Item = WeylErro
 #[test]
 fn every_short_circuit_on_one_qudit() {
     let alphabet = [
-        Operation::Fourier { q: 0 },
-        Operation::PhaseGate { q: 0 },
+        Operation::Fourier { q: 0, times: 1 },
+        Operation::PhaseGate { q: 0, times: 1 },
         Operation::Multiplier { q: 0, u: 2 },
         Operation::Measure { q: 0 },
     ];
@@ -330,11 +330,11 @@ fn every_short_circuit_on_one_qudit() {
 #[test]
 fn every_short_circuit_on_two_qutrits() {
     let alphabet = [
-        Operation::Fourier { q: 0 },
-        Operation::Fourier { q: 1 },
-        Operation::PhaseGate { q: 1 },
-        Operation::Sum { c: 0, t: 1 },
-        Operation::Cz { c: 1, t: 0 },
+        Operation::Fourier { q: 0, times: 1 },
+        Operation::Fourier { q: 1, times: 1 },
+        Operation::PhaseGate { q: 1, times: 1 },
+        sum(0, 1),
+        cz(1, 0),
         Operation::Swap { c: 0, t: 1 },
         Operation::Measure { q: 0 },
         Operation::Measure { q: 1 },
@@ -352,9 +352,9 @@ fn every_error_at_every_place() {
         .flat_map(|d| every_error(d, 2, 6).map(move |error| (d, error)))
     {
         let mut book = Book::new(d, 2);
-        book.operation(Operation::Fourier { q: 0 })
-            .operation(Operation::PhaseGate { q: 0 })
-            .operation(Operation::Sum { c: 0, t: 1 })
+        book.operation(Operation::Fourier { q: 0, times: 1 })
+            .operation(Operation::PhaseGate { q: 0, times: 1 })
+            .operation(sum(0, 1))
             .measure(1, 1)
             .measure(0, 2)
             .measure(1, 0)
@@ -370,13 +370,39 @@ fn every_error_at_every_place() {
 fn every_short_circuit_with_every_multiplier() {
     for d in [3, 5, 7] {
         let mut alphabet = vec![
-            Operation::Fourier { q: 0 },
-            Operation::PhaseGate { q: 0 },
+            Operation::Fourier { q: 0, times: 1 },
+            Operation::PhaseGate { q: 0, times: 1 },
             Operation::Measure { q: 0 },
         ];
         alphabet.extend((1..d).map(|u| Operation::Multiplier { q: 0, u }));
         follow_every_circuit(d, 1, &alphabet, 5);
     }
+}
+
+#[test]
+fn every_short_circuit_with_every_power() {
+    let q = 0;
+    for d in [3, 5] {
+        let mut alphabet = vec![Operation::Measure { q }];
+        alphabet.extend((1..4).map(|times| Operation::Fourier { q, times }));
+        alphabet.extend((1..d).map(|times| Operation::PhaseGate { q, times }));
+        follow_every_circuit(d, 1, &alphabet, 5);
+    }
+}
+
+#[test]
+fn every_short_circuit_of_powers_on_two_qutrits() {
+    let alphabet = [
+        Operation::Fourier { q: 0, times: 1 },
+        Operation::Fourier { q: 0, times: 2 },
+        Operation::Fourier { q: 1, times: 3 },
+        Operation::PhaseGate { q: 1, times: 2 },
+        with_times(sum(0, 1), 2),
+        with_times(cz(1, 0), 2),
+        Operation::Measure { q: 0 },
+        Operation::Measure { q: 1 },
+    ];
+    follow_every_circuit(3, 2, &alphabet, 5);
 }
 
 /// Follows the book of every multiplier, which is on qudit 0. It is struck by every single error,
@@ -411,9 +437,9 @@ fn follow_every_multiplier(book: impl Fn(u8, u8) -> Book) {
 fn every_multiplier_on_a_pair_of_like_levels() {
     follow_every_multiplier(|d, u| {
         let mut book = Book::new(d, 2);
-        book.operation(Operation::Fourier { q: 0 })
-            .operation(Operation::PhaseGate { q: 0 })
-            .operation(Operation::Sum { c: 0, t: 1 })
+        book.operation(Operation::Fourier { q: 0, times: 1 })
+            .operation(Operation::PhaseGate { q: 0, times: 1 })
+            .operation(sum(0, 1))
             .operation(Operation::Multiplier { q: 0, u })
             .measure(0, 1)
             .measure(1, 0);
@@ -432,13 +458,13 @@ fn every_multiplier_before_and_after_a_measurement() {
     follow_every_multiplier(|d, u| {
         let m = d - 1;
         let mut book = Book::new(d, 2);
-        book.operation(Operation::Fourier { q: 0 })
-            .operation(Operation::Fourier { q: 1 })
-            .operation(Operation::PhaseGate { q: 0 })
-            .operation(Operation::Cz { c: 0, t: 1 })
-            .operation(Operation::Cz { c: 0, t: 1 })
+        book.operation(Operation::Fourier { q: 0, times: 1 })
+            .operation(Operation::Fourier { q: 1, times: 1 })
+            .operation(Operation::PhaseGate { q: 0, times: 1 })
+            .operation(cz(0, 1))
+            .operation(cz(0, 1))
             .operation(Operation::Multiplier { q: 0, u })
-            .operation(Operation::Fourier { q: 0 })
+            .operation(Operation::Fourier { q: 0, times: 1 })
             .measure(0, m)
             .operation(Operation::Multiplier { q: 0, u })
             .measure(0, 0);

@@ -7,7 +7,7 @@ use cagvost::book::{Book, DIMENSIONS, MAX_ERRORS, MAX_OPERATIONS, Operation, Wey
 use common::frames::{Buffers, carry_both};
 use common::plain::{self, Row};
 use common::{PAPER_BOOK, Rng, Shape, UNWRITTEN, Verdicts, run_both};
-use common::{draw_book, draw_error, draw_tableau, zero_tableau};
+use common::{cz, draw_book, draw_error, draw_tableau, sum, zero_tableau};
 use common::{with_raised_choices, without_errors};
 
 // ---- Cases
@@ -105,7 +105,7 @@ fn errors_that_cancel_are_clean() {
 #[test]
 fn refusals_in_their_order() {
     let mut good = Book::new(3, 2);
-    good.operation(Operation::Fourier { q: 0 })
+    good.operation(Operation::Fourier { q: 0, times: 1 })
         .strike(1, 1, 1)
         .measure(0, 1);
     let good = good.to_bytes();
@@ -234,11 +234,11 @@ fn every_error_at_every_place() {
     for (d, place, qudit) in (0..=7).flat_map(|k| [(3, k, 0), (3, k, 1), (5, k, 0), (5, k, 1)]) {
         for (p, s) in (0..d).flat_map(|p| (0..d).map(move |s| (p, s))) {
             let mut book = Book::new(d, 2);
-            book.operation(Operation::Fourier { q: 0 })
-                .operation(Operation::PhaseGate { q: 0 })
-                .operation(Operation::Sum { c: 0, t: 1 })
+            book.operation(Operation::Fourier { q: 0, times: 1 })
+                .operation(Operation::PhaseGate { q: 0, times: 1 })
+                .operation(sum(0, 1))
                 .measure(1, 1)
-                .operation(Operation::Cz { c: 1, t: 0 })
+                .operation(cz(1, 0))
                 .operation(Operation::Multiplier { q: 0, u: 2 })
                 .measure(0, 2);
             book.error(WeylError { place, qudit, p, s });

@@ -10,17 +10,7 @@ mod common;
 use cagvost::book::{Book, DIMENSIONS, MAX_QUDITS, Operation};
 use common::frames::{Buffers, carry_both};
 use common::plain::{self, Op, Row};
-use common::{Rng, UNWRITTEN, draw_tableau, every_factor, run_both, times};
-
-/// A book that strikes each qudit with powers that are not 0: a wrong inverse shows on each.
-fn draw_struck(rng: &mut Rng, d: u8, n: u8) -> Book {
-    let mut book = Book::new(d, n);
-    for q in 0..n {
-        let [p, s] = [0, 0].map(|_| 1 + rng.byte_below(d - 1));
-        book.strike(q, p, s);
-    }
-    book
-}
+use common::{Rng, UNWRITTEN, draw_struck, draw_tableau, every_factor, run_both, times};
 
 // ---- Multipliers
 

@@ -9,8 +9,9 @@ use cagvost::book::{Book, DIMENSIONS, MAX_CHOICES, MAX_ERRORS, MAX_OPERATIONS};
 use cagvost::book::{Operation, WeylError};
 use common::frames::{Buffers, carry_both};
 use common::plain::{Told, is_valid, read};
+use common::zero_tableau;
 use common::{BODIES, FULL, PAPER_BOOK, Rng, Shape, UNWRITTEN, layer_both, run_both, test_both};
-use common::{counted, draw_book, draw_tableau, with_byte, with_tail, zero_tableau};
+use common::{counted, cz, draw_book, draw_tableau, sum, with_byte, with_tail, with_times};
 
 /// What a run with good buffers says to the book.
 fn answer(book: &[u8]) -> Told {
@@ -26,23 +27,23 @@ fn answer(book: &[u8]) -> Told {
 /// A book with one operation, as bytes.
 fn one_operation(d: u8, n: u8, entry: [u8; 4]) -> Vec<u8> {
     let mut book = Book::new(d, n);
-    book.operation(Operation::Fourier { q: 0 });
+    book.operation(Operation::Fourier { q: 0, times: 1 });
     let mut bytes = book.to_bytes();
     bytes[BODIES..BODIES + 4].copy_from_slice(&entry);
     bytes
 }
 
-/// A book of a few operations of every kind, errors and choices.
+/// A book of a few operations of every kind, two of them powers, errors and choices.
 fn mixed_book() -> Book {
     let mut book = Book::new(5, 3);
     book.strike(2, 4, 1)
-        .operation(Operation::Fourier { q: 0 })
-        .operation(Operation::PhaseGate { q: 1 })
+        .operation(Operation::Fourier { q: 0, times: 3 })
+        .operation(Operation::PhaseGate { q: 1, times: 1 })
         .strike(0, 1, 0)
         .strike(1, 0, 3)
-        .operation(Operation::Sum { c: 0, t: 2 })
+        .operation(sum(0, 2))
         .measure(2, 3)
-        .operation(Operation::Cz { c: 2, t: 1 })
+        .operation(with_times(cz(2, 1), 4))
         .operation(Operation::Swap { c: 1, t: 0 })
         .operation(Operation::Multiplier { q: 1, u: 3 })
         .measure(0, 4)
@@ -179,7 +180,7 @@ fn refusal_5_names_the_first_bad_operation() {
         let mut book = Book::new(3, 2);
         let count = 1 + rng.below(MAX_OPERATIONS);
         for _ in 0..count {
-            book.operation(Operation::Cz { c: 1, t: 0 });
+            book.operation(cz(1, 0));
         }
         let mut bytes = book.to_bytes();
         let bad = [0, 1, 2].map(|_| rng.below(count));
@@ -212,8 +213,8 @@ fn refusal_6_errors() {
     ];
     let book = |errors: &[WeylError]| {
         let mut book = Book::new(5, 2);
-        book.operation(Operation::Fourier { q: 0 })
-            .operation(Operation::Sum { c: 1, t: 0 });
+        book.operation(Operation::Fourier { q: 0, times: 1 })
+            .operation(sum(1, 0));
         errors.iter().for_each(|&e| _ = book.error(e));
         book.to_bytes()
     };
@@ -236,7 +237,7 @@ fn refusal_7_choices() {
     let book = |measurements: usize, choices: &[u8]| {
         let mut book = Book::new(3, 1);
         for _ in 0..measurements {
-            book.operation(Operation::Fourier { q: 0 })
+            book.operation(Operation::Fourier { q: 0, times: 1 })
                 .operation(Operation::Measure { q: 0 });
         }
         choices.iter().for_each(|&c| _ = book.choice(c));

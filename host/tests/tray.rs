@@ -10,7 +10,7 @@ use cagvost::book::{Book, DIMENSIONS, MAX_ERRORS, MAX_OPERATIONS, Operation, Wey
 use cagvost::{MAX_SHOTS, Refusal, Shots, Tray, TrayCounts, Verdict};
 use common::trays::{Lent, Told, draw_circuit, draw_errors, draw_tray, separate, tray_both};
 use common::{PAPER_BOOK, Rng, Shape, UNWRITTEN, draw_book, draw_error, paper_book, slices};
-use common::{draw_gate, draw_tableau, with_byte, without_errors, zero_tableau};
+use common::{draw_gate, draw_tableau, sum, with_byte, without_errors, zero_tableau};
 use std::thread;
 
 // ---- Cases
@@ -63,7 +63,7 @@ fn each_row_alone() {
 fn choices_serve_every_shot() {
     for (d, choice) in [3, 5, 31].into_iter().flat_map(|d| [(d, 0), (d, d - 1)]) {
         let mut book = Book::new(d, 1);
-        book.operation(Operation::Fourier { q: 0 })
+        book.operation(Operation::Fourier { q: 0, times: 1 })
             .measure(0, choice)
             .measure(0, d - 1 - choice);
         let mut tray = Tray::new();
@@ -465,9 +465,9 @@ fn full_books() {
 /// Four operations on two qudits of dimension 5, two of them measurements, with an error of its own.
 fn small_book() -> Book {
     let mut book = Book::new(5, 2);
-    book.operation(Operation::Fourier { q: 0 })
+    book.operation(Operation::Fourier { q: 0, times: 1 })
         .strike(1, 4, 4)
-        .operation(Operation::Sum { c: 0, t: 1 })
+        .operation(sum(0, 1))
         .measure(0, 4)
         .measure(1, 0);
     book

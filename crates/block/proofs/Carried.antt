@@ -21,10 +21,10 @@ module _ (d n : ℕ) (ops : List Operation) (errors : List WeylError) where
   -- a measurement does nothing to a frame, as a gate
   carry-by : (k : ℕ) (F : List ℕ) (op : Operation) → opAt ops k ≡ op → carryBy d n ops errors k (kind op) F ≡ gateFrame d n op F
   unfolding carryBy gatePowers
-  carry-by k F (Fourier q) e = rw e
-  carry-by k F (PhaseGate q) e = rw e
-  carry-by k F (Sum c t) e = rw e
-  carry-by k F (Cz c t) e = rw e
+  carry-by k F (Fourier q j) e = rw e
+  carry-by k F (PhaseGate q j) e = rw e
+  carry-by k F (Sum c t j) e = rw e
+  carry-by k F (Cz c t j) e = rw e
   carry-by k F (Swap c t) e = rw e
   carry-by k F (Multiplier q u) e = rw e
   carry-by k F (Measure q) e = refl

@@ -2,8 +2,10 @@
 -- Assumes nothing.
 use mathlib.Core.Path.{_≡_, refl, sym, ap, _∙_}
 use mathlib.Core.List.{List}
-use Prim.Native.Nat.{ℕ, suc, _+_, _-_, _*_, _/_, _%_, _<_, _≤_}
+use Prim.Native.Nat.{ℕ, _+_, _-_, _*_, _/_, _%_, _<_, _≤_}
 use native.Mathlib.Decide.{ℕ-discrete, decLt}
+use native.Mathlib.Nat.{le-antisymm}
+use native.Mathlib.Numerals.{add-one}
 use native.Mathlib.Omega.{arith}
 use lib.ListN.{length, getD, set, length-set}
 use lib.Seq.{getD-set-same, getD-set-other}
@@ -23,8 +25,8 @@ use Rattle.lanes.specs.Lanes.{lane, Lanes}
 use Rattle.lanes.proofs.Lanes.{lane-at}
 use Rattle.tile.specs.Tile.{Noted, shotAt, Flushed}
 use Rattle.calendar.specs.Calendar.{AllStruck, Filed}
-use Rattle.block.specs.Carried.{CarriedTo}
-use Rattle.block.proofs.Carried.{carried-step}
+use Rattle.block.specs.Carried.{CarriedTo, CarriedAll}
+use Rattle.block.proofs.Carried.{carried-step, carried-end}
 use Rattle.operation.specs.Gate.{gatePowers, gateFrame}
 use Rattle.block.specs.Block.{outcomeOf, markOf, Empty, Told, Setting, Stepped, gated, noted, AllTold}
 
@@ -124,48 +126,13 @@ measured-room d n ops clean st k j q h e o =
 -- a measurement leaves a frame
 measure-still : (d n q : ℕ) (op : Operation) → kind op ≡ measures q → (F : List ℕ) → gateFrame d n op F ≡ F
 unfolding gatePowers
-measure-still d n q (Fourier p) e F = let z : _≡_ {A = ℕ} 0 1 = ap tallyKind e in absurd (omega arith)
-measure-still d n q (PhaseGate p) e F = let z : _≡_ {A = ℕ} 0 1 = ap tallyKind e in absurd (omega arith)
-measure-still d n q (Sum c t) e F = let z : _≡_ {A = ℕ} 0 1 = ap tallyKind e in absurd (omega arith)
-measure-still d n q (Cz c t) e F = let z : _≡_ {A = ℕ} 0 1 = ap tallyKind e in absurd (omega arith)
+measure-still d n q (Fourier p k) e F = let z : _≡_ {A = ℕ} 0 1 = ap tallyKind e in absurd (omega arith)
+measure-still d n q (PhaseGate p k) e F = let z : _≡_ {A = ℕ} 0 1 = ap tallyKind e in absurd (omega arith)
+measure-still d n q (Sum c t k) e F = let z : _≡_ {A = ℕ} 0 1 = ap tallyKind e in absurd (omega arith)
+measure-still d n q (Cz c t k) e F = let z : _≡_ {A = ℕ} 0 1 = ap tallyKind e in absurd (omega arith)
 measure-still d n q (Swap c t) e F = let z : _≡_ {A = ℕ} 0 1 = ap tallyKind e in absurd (omega arith)
 measure-still d n q (Multiplier p u) e F = let z : _≡_ {A = ℕ} 0 1 = ap tallyKind e in absurd (omega arith)
 measure-still d n q (Measure p) e F = refl
-
--- a step of the run
-pub record Next (d n : ℕ) (ops : List Operation) (errors : ℕ → List WeylError) (clean : List ℕ) (w used base k r : ℕ) (v₀ v tile marks out : List ℕ) : Type 0 where
-  pub lanes : CarriedTo d n ops errors (k + 1) v₀ v
-  pub told : Told d n ops errors clean w used base r tile marks out
-  pub count : r ≡ measured ops (k + 1)
-
-pub next-step : {d n : ℕ} {ops : List Operation} {errors : ℕ → List WeylError} {clean : List ℕ} {w used base k j y r : ℕ}
-    {v₀ v u x tile tile' marks marks' out : List ℕ} → Empty n v₀ → CarriedTo d n ops errors k v₀ v → AllStruck d n errors k v u → k < length ops
-    → j ≡ measured ops k → j ≡ base + y → y < 16
-    → Told d n ops errors clean w used base j tile marks out
-    → Stepped d n ops clean k j y u tile marks x tile' marks' r
-    → Next d n ops errors clean w used base k r v₀ x tile' marks' out
-unfolding measured
-next-step {d} {n} {ops} {k = k} z a b h e ey small t (gated w g s) =
-    record {
-      lanes = carried-step (opAt ops k) refl a b s;
-      told = t;
-      count = let q : k + 1 ≡ suc k = omega arith in rw q (omega (arith, e, ap tallyKind g));
-    }
-next-step {d} {n} {ops} {k = k} {u = u} z a b h e ey small t (noted q tile' g low s) =
-    record {
-      lanes = carried-step (opAt ops k) refl a b (record { len = refl; each = λ l m. sym (still (opAt ops k) g (lane n u l)) });
-      told = told-more _ z a b h low g e ey small t s;
-      count = let i : k + 1 ≡ suc k = omega arith in rw i (omega (arith, e, ap tallyKind g));
-    }
-  where
-    still : (op : Operation) → kind op ≡ measures q → (F : List ℕ) → gateFrame d n op F ≡ F
-    still op e F = measure-still d n q op e F
-
-all-told : {d n : ℕ} {ops : List Operation} {errors : ℕ → List WeylError} {clean : List ℕ} {w used j : ℕ} {tile marks out out' : List ℕ}
-    → length out' ≡ length out → j ≡ measured ops (length ops) → Told d n ops errors clean w used j j tile marks out'
-    → AllTold d n ops errors clean w used out out'
-all-told e q t =
-    record { len = e; outcomes = λ l i h g. t .outcomes l i h (omega arith); marks-too = λ l i h g. t .marks-too l i h (omega arith) }
 
 -- before operation k
 pub record Going (d n : ℕ) (ops : List ℕ) (errors : ℕ → List WeylError) (clean : List ℕ) (w used k j base : ℕ)
@@ -180,8 +147,50 @@ pub record Going (d n : ℕ) (ops : List ℕ) (errors : ℕ → List WeylError) 
   pub out-len : length out ≡ length out₀
   pub spare-len : length spare ≡ 4096
 
-pub all-flushed : {d n : ℕ} {ops : List Operation} {errors : ℕ → List WeylError} {clean : List ℕ} {w used base j : ℕ} {tile marks out out' out₀ : List ℕ}
-    → used ≤ 256 → length out' ≡ length out₀ → j ≡ measured ops (length ops) → Told d n ops errors clean w used base j tile marks out
+-- a step of the run
+pub record Next (d n : ℕ) (ops : List Operation) (errors : ℕ → List WeylError) (clean : List ℕ) (w used base k r : ℕ) (v₀ v tile marks out : List ℕ) : Type 0 where
+  pub lanes : CarriedTo d n ops errors (k + 1) v₀ v
+  pub told : Told d n ops errors clean w used base r tile marks out
+  pub count : r ≡ measured ops (k + 1)
+
+pub next-step : {d n : ℕ} {ops : List ℕ} {errors : ℕ → List WeylError} {clean : List ℕ} {w used k j base r : ℕ}
+    {out₀ v₀ out v slots counts cursors tile spare marks u x tile' marks' : List ℕ} → Empty n v₀ → k < length ops / 4
+    → Going d n ops errors clean w used k j base out₀ v₀ out v slots counts cursors tile spare marks
+    → AllStruck d n errors k v u
+    → Stepped d n (operationsOf d n ops) clean k j (j - base) u tile marks x tile' marks' r
+    → Next d n (operationsOf d n ops) errors clean w used base k r v₀ x tile' marks' out
+unfolding measured
+next-step {d} {n} {ops} {k = k} z h a b (gated w g s) =
+    record {
+      lanes = carried-step (opAt (operationsOf d n ops) k) refl (a .lanes) b s;
+      told = a .told;
+      count = rw (add-one k) (omega (arith, a .count, ap tallyKind g));
+    }
+next-step {d} {n} {ops} {k = k} {j = j} {base = base} {u = u} z h a b (noted q tile' g low s) =
+    let list = operationsOf d n ops in
+    let y : j ≡ base + (j - base) = omega (arith, a .told .low) in
+    let l : k < length list = omega (arith, op-count d n ops) in
+    record {
+      lanes = carried-step (opAt list k) refl (a .lanes) b (record { len = refl; each = λ l m. sym (measure-still d n q (opAt list k) g (lane n u l)) });
+      told = told-more (j - base) z (a .lanes) b l low g (a .count) y (omega (arith, a .recent)) (a .told) s;
+      count = rw (add-one k) (omega (arith, a .count, ap tallyKind g));
+    }
+
+all-told : {d n : ℕ} {ops : List Operation} {errors : ℕ → List WeylError} {clean : List ℕ} {w used j : ℕ} {tile marks out out' : List ℕ}
+    → length out' ≡ length out → j ≡ measured ops (length ops) → Told d n ops errors clean w used j j tile marks out'
+    → AllTold d n ops errors clean w used out out'
+all-told e q t =
+    record { len = e; outcomes = λ l i h g. t .outcomes l i h (omega arith); marks-too = λ l i h g. t .marks-too l i h (omega arith) }
+
+-- past the last operation
+pub going-end : {d n : ℕ} {ops : List ℕ} {errors : ℕ → List WeylError} {clean : List ℕ} {w used k j base : ℕ}
+    {out₀ v₀ out v slots counts cursors tile spare marks u out' : List ℕ} → used ≤ 256 → length ops / 4 ≤ k
+    → Going d n ops errors clean w used k j base out₀ v₀ out v slots counts cursors tile spare marks
+    → AllStruck d n errors k v u
     → Flushed w used base (j - base) tile marks out out'
-    → AllTold d n ops errors clean w used out₀ out'
-all-flushed {tile = tile} few e q t f = all-told e q (told-flushed {tile' = tile} few (t .tile-room) t f)
+    → CarriedAll d n (operationsOf d n ops) errors v₀ u × AllTold d n (operationsOf d n ops) errors clean w used out₀ out'
+going-end {d} {n} {ops} {k = k} {tile = tile} few h a b f =
+    let e : k ≡ length (operationsOf d n ops) = le-antisymm (a .within) h ∙ sym (op-count d n ops) in (
+      carried-end (rw e at (a .lanes)) (rw e at b),
+      all-told (f .len ∙ a .out-len) (rw e at (a .count)) (told-flushed {tile' = tile} few (a .told .tile-room) (a .told) f),
+    )

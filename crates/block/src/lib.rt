@@ -2,6 +2,7 @@
 ghost use mathlib.Core.Path.{_≡_};
 ghost use Prim.Native.Nat.{ℕ, _+_, _*_, _/_, _<_, _≤_};
 ghost use lib.ListN.{length};
+ghost use Rattle.modular.specs.Modular.{Reciprocal};
 ghost use Rattle.circuit.specs.Circuit.{measured};
 ghost use Rattle.book.specs.Decoded.{operationsOf};
 ghost use Rattle.lanes.specs.Lanes.{Lanes};
@@ -25,6 +26,7 @@ fn perform(
     j: usize,
     y: usize,
     d: u8,
+    m: u16,
     n: usize,
 ) -> usize
     requires { ⌜ (k < length (now ops) / 4)
@@ -33,7 +35,8 @@ fn perform(
         × (j ≡ measured (operationsOf d n (now ops)) k)
         × (length (now tile) ≡ 4096)
         × (length (now marks) ≡ 16)
-        × (y < 16) ⌝ }
+        × (y < 16)
+        × Reciprocal d m ⌝ }
     ensures { λ r. ⌜ Stepped d n (operationsOf d n (now (ops .entry))) (now (clean .entry)) k j y (now (v .entry)) (now (tile .entry)) (now (marks .entry)) (now (v .exit)) (now (tile .exit)) (now (marks .exit)) r
         × Lanes d n (now (v .exit))
         × (length (now (tile .exit)) ≡ 4096)
@@ -45,7 +48,7 @@ fn perform(
         marks[y] = clean[2 * j + 1];
         return j + 1;
     }
-    lane_gate::perform(v, ops, k, d, n);
+    lane_gate::perform(v, ops, k, d, m, n);
     j
 }
 
@@ -122,6 +125,7 @@ pub fn run(
         × Lanes d n (now (v .exit))
         × AllTold d n (operationsOf d n (now (ops .entry))) (laneErrors (now (tray .entry)) (now (starts .entry)) (now (sizes .entry))) (now (clean .entry)) w used (now (out .entry)) (now (out .exit)) ⌝ }
 {
+    let m = modular::reciprocal(d);
     let count = ops.len() / 4;
     let mut k = 0;
     let mut j = 0;
@@ -129,7 +133,7 @@ pub fn run(
     while k < count {
         calendar::strike_place(v, slots, counts, cursors, tray, starts, sizes, k, d, n);
         let y = j - base;
-        j = perform(v, tile, marks, ops, clean, k, j, y, d, n);
+        j = perform(v, tile, marks, ops, clean, k, j, y, d, m, n);
         base = settle(out, tile, spare, marks, base, j, w, used);
         k += 1;
     }

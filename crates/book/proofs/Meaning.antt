@@ -32,10 +32,10 @@ is-in Bad e = absurd (false≢true e)
 -- 1 for the code 6, else 0
 code-tally : (op : Operation) → tally op ≡ cond (eqb (getD (bytesOf op) 0 0) 6) 1 0
 unfolding bytesOf
-code-tally (Fourier q) = refl
-code-tally (PhaseGate q) = refl
-code-tally (Sum c t) = refl
-code-tally (Cz c t) = refl
+code-tally (Fourier q k) = refl
+code-tally (PhaseGate q k) = refl
+code-tally (Sum c t k) = refl
+code-tally (Cz c t k) = refl
 code-tally (Swap c t) = refl
 code-tally (Multiplier q u) = refl
 code-tally (Measure q) = refl

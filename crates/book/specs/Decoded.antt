@@ -8,7 +8,7 @@ use Rattle.modular.specs.Dimension.{listed}
 use Rattle.row.specs.Row.{tab}
 use Rattle.tableau.specs.Tableau.{sized}
 use Rattle.operation.specs.declared.Operation.{Operation}
-use Rattle.operation.specs.declared.Operation.the-variants.{Sum}
+use Rattle.operation.specs.declared.Operation.the-variants.{Swap}
 use Rattle.operation.specs.declared.WeylError.{WeylError}
 use Rattle.circuit.specs.Circuit.{measured, Accepted}
 use Rattle.entries.specs.declared.Decoded.{Decoded}
@@ -20,7 +20,7 @@ use Rattle.book.specs.Book.{readBook, dimensionOf, quditsOf, bodyOf}
 -- the operation of an entry; for a bad one, one that is never allowed
 abbrev pub operationIn : Decoded → Operation
 operationIn (Good op) = op
-operationIn Bad = Sum 0 0
+operationIn Bad = Swap 0 0
 
 abbrev pub operationOf : ℕ → ℕ → List ℕ → ℕ → Operation
 operationOf d n ops k = operationIn (operationAt d n ops k)

@@ -23,7 +23,7 @@ pub extern "C" fn cagvost_layer(t: &mut [u8], d: usize, n: usize) -> Answer
 pub extern "C" fn cagvost_test(t: &[u8], d: usize, n: usize) -> Answer
     ensures { λ r. ⌜ r ≡ record { number = testNumber d n (now (t .entry)); place = 0 } ⌝ }
 {
-    validity::test(t, d, n)
+    tableau_test::test(t, d, n)
 }
 
 // Writes the book of d, n and three bodies, or refuses by 2 to 8.

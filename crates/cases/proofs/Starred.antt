@@ -20,17 +20,17 @@ use Rattle.run.specs.Run.{onward, noted}
 use Rattle.run.specs.Direct.{State, strike, directLook, directKind, directStrike, directStep, directRun}
 
 -- ★1 Fourier: (1,1,0) gives (2,1,2).
-fourier : gateRow 3 1 (Fourier 0) (1 ∷ 1 ∷ 0 ∷ []) ≡ 2 ∷ 1 ∷ 2 ∷ []
+fourier : gateRow 3 1 (Fourier 0 1) (1 ∷ 1 ∷ 0 ∷ []) ≡ 2 ∷ 1 ∷ 2 ∷ []
 unfolding gateRow gatePowers gatePhase
 fourier = refl
 
 -- ★2 Phase gate: (2,0,0) gives (2,2,1).
-phase-gate : gateRow 3 1 (PhaseGate 0) (2 ∷ 0 ∷ 0 ∷ []) ≡ 2 ∷ 2 ∷ 1 ∷ []
+phase-gate : gateRow 3 1 (PhaseGate 0 1) (2 ∷ 0 ∷ 0 ∷ []) ≡ 2 ∷ 2 ∷ 1 ∷ []
 unfolding gateRow gatePowers gatePhase
 phase-gate = refl
 
 -- ★3 CZ, n = 2: X on both gives X, Z on both, phase 1.
-cz : gateRow 3 2 (Cz 0 1) (1 ∷ 1 ∷ 0 ∷ 0 ∷ 0 ∷ []) ≡ 1 ∷ 1 ∷ 1 ∷ 1 ∷ 1 ∷ []
+cz : gateRow 3 2 (Cz 0 1 1) (1 ∷ 1 ∷ 0 ∷ 0 ∷ 0 ∷ []) ≡ 1 ∷ 1 ∷ 1 ∷ 1 ∷ 1 ∷ []
 unfolding gateRow gatePowers gatePhase
 cz = refl
 
@@ -74,6 +74,6 @@ unfolding directRun onward directStep directStrike directKind directLook strike 
 certain = refl
 
 -- ★9 Fourier, then measure with choice 2: free 2, rows (1,0,0) and (0,1,1).
-free : directRun 3 1 (Fourier 0 ∷ Measure 0 ∷ []) [] (2 ∷ []) start ≡ record { rows = 1 ∷ 0 ∷ 0 ∷ 0 ∷ 1 ∷ 1 ∷ []; results = 2 ∷ 1 ∷ [] }
+free : directRun 3 1 (Fourier 0 1 ∷ Measure 0 ∷ []) [] (2 ∷ []) start ≡ record { rows = 1 ∷ 0 ∷ 0 ∷ 0 ∷ 1 ∷ 1 ∷ []; results = 2 ∷ 1 ∷ [] }
 unfolding directRun onward directStep directStrike directKind directLook strike measured noted look pivotOf firstNot collapse collapseRow zWith inverse powerOf zeroTableau eachRow part put product power rowOf tab dot gateRow gatePowers gatePhase
 free = refl

@@ -10,10 +10,10 @@ use Rattle.operation.proofs.Operation.{the-type}
 use Rattle.circuit.specs.Circuit.{gate, kind}
 
 pub is-gate : (op : Operation) → OneOf (0 ∷ 1 ∷ 2 ∷ 3 ∷ 4 ∷ 5 ∷ []) (tagOf the-type op) → kind op ≡ gate
-is-gate (Fourier q) h = refl
-is-gate (PhaseGate q) h = refl
-is-gate (Sum c t) h = refl
-is-gate (Cz c t) h = refl
+is-gate (Fourier q k) h = refl
+is-gate (PhaseGate q k) h = refl
+is-gate (Sum c t k) h = refl
+is-gate (Cz c t k) h = refl
 is-gate (Swap c t) h = refl
 is-gate (Multiplier q u) h = refl
 is-gate (Measure q) h = absurd (miss (0 ∷ 1 ∷ 2 ∷ 3 ∷ 4 ∷ 5 ∷ []) 6 (record {}) h)

@@ -23,10 +23,10 @@ pub data Kind : Type 0 where
   measures : (q : ℕ) → Kind
 
 abbrev pub kind : Operation → Kind
-kind (Fourier q) = gate
-kind (PhaseGate q) = gate
-kind (Sum c t) = gate
-kind (Cz c t) = gate
+kind (Fourier q k) = gate
+kind (PhaseGate q k) = gate
+kind (Sum c t k) = gate
+kind (Cz c t k) = gate
 kind (Swap c t) = gate
 kind (Multiplier q u) = gate
 kind (Measure q) = measures q

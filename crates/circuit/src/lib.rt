@@ -15,10 +15,18 @@ pub fn tally(operation: Operation) -> usize
     ensures { λ r. ⌜ (r ≡ tally operation) × (r ≤ 1) ⌝ }
 {
     match operation {
-        Operation::Fourier { q: _ } => 0,
-        Operation::PhaseGate { q: _ } => 0,
-        Operation::Sum { c: _, t: _ } => 0,
-        Operation::Cz { c: _, t: _ } => 0,
+        Operation::Fourier { q: _, times: _ } => 0,
+        Operation::PhaseGate { q: _, times: _ } => 0,
+        Operation::Sum {
+            c: _,
+            t: _,
+            times: _,
+        } => 0,
+        Operation::Cz {
+            c: _,
+            t: _,
+            times: _,
+        } => 0,
         Operation::Swap { c: _, t: _ } => 0,
         Operation::Multiplier { q: _, u: _ } => 0,
         Operation::Measure { q: _ } => 1,

@@ -15,17 +15,10 @@ pub fn operation_of(ops: &[u8], k: usize, d: u8, n: usize) -> Operation
     ensures { λ r. ⌜ r ≡ opAt (operationsOf d n (now (ops .entry))) k ⌝ }
 {
     let at = 4 * k;
-    let code = ops[at];
-    let q = entries::wide(ops[at + 1]);
-    let t = entries::wide(ops[at + 2]);
-    let u = ops[at + 3];
-    match code {
-        0 => Operation::Fourier { q },
-        1 => Operation::PhaseGate { q },
-        2 => Operation::Sum { c: q, t },
-        3 => Operation::Cz { c: q, t },
-        4 => Operation::Swap { c: q, t },
-        5 => Operation::Multiplier { q, u },
-        _ => Operation::Measure { q },
-    }
+    entries::coded(
+        ops[at],
+        entries::wide(ops[at + 1]),
+        entries::wide(ops[at + 2]),
+        ops[at + 3],
+    )
 }

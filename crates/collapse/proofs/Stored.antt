@@ -12,9 +12,10 @@ use lib.Seq.{getD-set-same, getD-set-other, ext-getD}
 use Rattle.modular.specs.Modular.{WideReciprocal}
 use Rattle.modular.specs.Dimension.{listed, inverse}
 use Rattle.modular.proofs.Listed.{dimension}
-use Rattle.row.specs.Row.{Row, phaseOf, dot, sumAt, timesAt, product, power}
+use Rattle.row.specs.Row.{Row, xOf, phaseOf, dot, sumAt, timesAt, product, power}
+use Rattle.row.specs.Fill.{filled}
 use Rattle.row.specs.Multiple.{Multiple}
-use Rattle.row.proofs.Fill.{row-power, row-phase}
+use Rattle.row.proofs.Fill.{filled-length, filled-get, row-power, row-phase}
 use Rattle.row.proofs.Laws.{power-row}
 use Rattle.row.proofs.Scaled.{phase-multiple}
 use Rattle.tableau.specs.Tableau.{Tableau, part, row}
@@ -24,6 +25,10 @@ use Rattle.weyl.proofs.Reading.{positive}
 use Rattle.weyl.proofs.Laws.{power-zero, power-one, powers-add}
 use Rattle.collapse.specs.Setting.{PowersOf, Widened, pivotIn, Setting}
 use Rattle.collapse.specs.declared.Measurement.{Measurement}
+
+pub widened : (n : ℕ) (pivot xs₀ : List ℕ) {xs : List ℕ} → n ≤ length xs₀ → xs ≡ filled (xOf pivot) xs₀ n → Widened n pivot xs
+widened n pivot xs₀ l e =
+    rw e (record { room = omega (arith, filled-length (xOf pivot) xs₀ n l); same = λ j b. filled-get (xOf pivot) xs₀ n j b })
 
 -- The next power is the pivot times the one before.
 module _ (d n : ℕ) (pivot : List ℕ) (r : Row d n pivot) (h : ℕ) where

@@ -62,18 +62,6 @@ fn powers(p: &mut [u8], pivot: &[u8], d: u8, m: u64, n: usize)
     }
 }
 
-// The pivot's X powers as numbers of 16 bits: a row's sum of products then needs no widening.
-fn widen(xs: &mut [u16], pivot: &[u8], n: usize)
-    requires { ⌜ (n ≤ 64)
-        × (n ≤ length (now xs))
-        × (n ≤ length (now pivot)) ⌝ }
-    ensures { λ _. ⌜ Widened n (now (pivot .entry)) (now (xs .exit)) ⌝ }
-{
-    for j in 0..n {
-        xs[j] = row::wide(pivot[j]);
-    }
-}
-
 // The rows that are multiplied by a power of the pivot, in order: all but k and n + k that have an X power on q. They are found without a
 // branch, which for small d would often be foreseen wrongly; so the list is written one number ahead.
 fn changing(list: &mut [u8], t: &[u8], k: usize, q: usize, n: usize) -> usize
@@ -181,7 +169,7 @@ pub fn collapse(t: &mut [u8], k: usize, q: usize, choice: u8, tables: &[u8], d: 
         n,
     };
     powers(&mut p, &t[s..e], d, m, n);
-    widen(&mut xs, &t[s..e], n);
+    row::widen(&mut xs, &t[s..e], n);
     let count = changing(&mut list, t, k, q, n);
     clear(t, &list[..count], &p, &xs, tables, c);
     replace(t, &p, c);

@@ -1,14 +1,13 @@
 -- A gate keeps the product with its phase and the pairing, and maps a frame as it maps a row's powers.
 -- Assumes nothing.
 use mathlib.Core.Path.{_≡_, refl, _∙_}
-use mathlib.Core.Bool.{true}
+use mathlib.Core.Bool.{true, and-eq-true-iff}
 use mathlib.Core.List.{List}
 use Prim.Native.Nat.{ℕ, zero, suc, _+_, _*_, _≤_, _<_}
 use native.Mathlib.Nat.{le-refl}
 use native.Mathlib.Omega.{arith}
 use lib.ListN.{take}
 use lib.Seq.{take-set-le, take-set-lt, getD-take}
-use borrow.Author.Tests.{ltb-true}
 use Rattle.congruence.proofs.Congruence.{Cong, cong-sym, cong-trans, small-cong}
 use Rattle.symplectic.proofs.Map.{pair-map}
 use Rattle.modular.specs.Dimension.{Dimension}
@@ -16,9 +15,9 @@ use Rattle.row.specs.Row.{Row, phaseOf}
 use Rattle.weyl.proofs.Reading.{bytes, Means, Reads, means, reads-self, unique, reads-cong, reads-product, pairing-small, pairing-means, pairing-is}
 use Rattle.operation.specs.declared.Operation.{Operation}
 use Rattle.operation.specs.declared.Operation.the-variants.{Fourier, PhaseGate, Sum, Cz, Swap, Multiplier, Measure}
-use Rattle.operation.specs.Operation.{distinct, allowed}
+use Rattle.operation.specs.Operation.{distinct, fromOne, allowed}
 use Rattle.operation.specs.Gate.{gatePowers, gateRow}
-use Rattle.operation.proofs.Operands.{distinct-facts, multiplier-facts}
+use Rattle.operation.proofs.Operands.{distinct-facts, single-facts}
 use Rattle.operation.proofs.Gate.{gate-row}
 use Rattle.conjugation.specs.Conjugation.{Homomorphism, GateKeepsPairing, GateOnFrame}
 use Rattle.conjugation.proofs.Acts.{mapped, gained, Acts, acts, reads-gate}
@@ -70,12 +69,12 @@ places-two n c t h = let l = distinct-facts n c t h in omega arith
 
 powers-on-frame : (d n : ℕ) (op : Operation) → allowed d n op ≡ true → (v : List ℕ) → take (2 * n) (gatePowers d n op v) ≡ gatePowers d n op (take (2 * n) v)
 unfolding gatePowers
-powers-on-frame d n (Fourier q) h v = let (x, z) = places (ltb-true q n h) in simp (take-set-lt, getD-take)
-powers-on-frame d n (PhaseGate q) h v = let (x, z) = places (ltb-true q n h) in simp (take-set-lt, getD-take)
-powers-on-frame d n (Sum c t) h v = let (x, z, y, w) = places-two n c t h in simp (take-set-lt, getD-take)
-powers-on-frame d n (Cz c t) h v = let (x, z, y, w) = places-two n c t h in simp (take-set-lt, getD-take)
+powers-on-frame d n (Fourier q k) h v = let (x, z) = places (single-facts 4 n q k h .0) in simp (take-set-lt, getD-take)
+powers-on-frame d n (PhaseGate q k) h v = let (x, z) = places (single-facts d n q k h .0) in simp (take-set-lt, getD-take)
+powers-on-frame d n (Sum c t k) h v = let (x, z, y, w) = places-two n c t (and-eq-true-iff (distinct n c t) (fromOne d k) .0 h .0) in simp (take-set-lt, getD-take)
+powers-on-frame d n (Cz c t k) h v = let (x, z, y, w) = places-two n c t (and-eq-true-iff (distinct n c t) (fromOne d k) .0 h .0) in simp (take-set-lt, getD-take)
 powers-on-frame d n (Swap c t) h v = let (x, z, y, w) = places-two n c t h in simp (take-set-lt, getD-take)
-powers-on-frame d n (Multiplier q m) h v = let (x, z) = places (multiplier-facts d n q m h .0) in simp (take-set-lt, getD-take)
+powers-on-frame d n (Multiplier q m) h v = let (x, z) = places (single-facts d n q m h .0) in simp (take-set-lt, getD-take)
 powers-on-frame d n (Measure q) h v = refl
 
 pub gate-on-frame : GateOnFrame

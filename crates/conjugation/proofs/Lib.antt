@@ -1,7 +1,9 @@
 pub mod Put
 pub mod On
 pub mod Acts
+pub mod Composed
 pub mod Gates
 pub mod Tables
 pub mod Determined
 pub mod Errors
+pub mod Repeated

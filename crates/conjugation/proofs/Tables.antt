@@ -2,14 +2,14 @@
 -- Assumes nothing.
 use mathlib.Core.Path.{_≡_, refl, ap, _∙_}
 use mathlib.Core.Logic.{_≢_}
-use mathlib.Core.Bool.{true, cond}
+use mathlib.Core.Bool.{Bool, true, false, cond, and-eq-true-iff}
 use mathlib.Core.List.{List}
 use Prim.Native.Nat.{ℕ, zero, suc, pred, _+_, _*_, _<_}
 use native.Mathlib.Nat.{zero-add}
 use native.Mathlib.Decide.{ℕ-discrete}
 use native.Mathlib.Omega.{arith}
 use lib.Dec.{eqb}
-use borrow.Author.Tests.{ltb-true, eq-eqb, ne-eqb}
+use borrow.Author.Tests.{eq-eqb, ne-eqb}
 use Rattle.congruence.proofs.Congruence.{Cong, cong-refl, cong-eq, cong-trans, cong-add}
 use Rattle.symplectic.proofs.Triangle.{tri}
 use Rattle.symplectic.proofs.Gates.{put, put-x, put-z}
@@ -20,9 +20,9 @@ use Rattle.weyl.specs.Scalar.{none, scalar}
 use Rattle.weyl.proofs.Reading.{Reads, reads-row, unique, reads-cong, reads-scalar, neg-is}
 use Rattle.operation.specs.declared.Operation.{Operation}
 use Rattle.operation.specs.declared.Operation.the-variants.{Fourier, PhaseGate, Sum, Cz, Swap, Multiplier, Measure}
-use Rattle.operation.specs.Operation.{distinct, allowed}
+use Rattle.operation.specs.Operation.{distinct, fromOne, allowed}
 use Rattle.operation.specs.Gate.{gatePowers, gatePhase, gateRow}
-use Rattle.operation.proofs.Operands.{distinct-facts, multiplier-facts}
+use Rattle.operation.proofs.Operands.{distinct-facts, single-facts}
 use Rattle.operation.proofs.Gate.{plain}
 use Rattle.conjugation.specs.Generators.{xOn, zOn}
 use Rattle.conjugation.specs.Published.{imageX, imageZ}
@@ -132,9 +132,12 @@ module _ {d n : ℕ} (low : 1 < d) (op : Operation) where
         still o = sends-two o (two-eq (omega arith) o)
 
 -- d − 1 is −1.
+minus : (d k : ℕ) → 0 < d → Cong d (neg d k) (pred d * k)
+minus zero k p = absurd (omega arith)
+minus (suc e) k p = neg-is e k
+
 minus-one : (d : ℕ) → 0 < d → Cong d (neg d 1) (pred d)
-minus-one zero p = absurd (omega arith)
-minus-one (suc e) p = cong-trans (neg-is e 1) (cong-eq (suc e) (omega arith))
+minus-one d p = cong-trans (minus d 1 p) (cong-eq d (omega arith))
 
 apart : (n c t : ℕ) → distinct n c t ≡ true → Apart n c t
 apart n c t h = let (x, y, z) = distinct-facts n c t h in record { c-low = x; t-low = y; differ = z }
@@ -152,45 +155,82 @@ module _ (d n : ℕ) (dim : Dimension d) where
   z-inverse : {q : ℕ} → q < n → On d n q none (power d n (neg d 1) (zOn n q)) 0 (pred d) 0
   z-inverse l = on-cong (cong-refl d 0) negative (cong-refl d 0) (z-power low l (neg d 1))
 
+  -- Fourier, by the tests k = 1 and k = 2
+  abbrev fourier-x : Bool → Bool → ℕ → ℕ → ℕ
+  fourier-x x y a b = cond x (pred d * b) (cond y (pred d * a) b)
+
+  abbrev fourier-z : Bool → Bool → ℕ → ℕ → ℕ
+  fourier-z x y a b = cond x a (cond y (pred d * b) (pred d * a))
+
+  abbrev fourier-phase : Bool → ℕ → ℕ → ℕ
+  fourier-phase y a b = cond y 0 (pred d * (a * b))
+
+  still : (x y : Bool) → (fourier-x x y 0 0 ≡ 0) × (fourier-z x y 0 0 ≡ 0) × (fourier-phase y 0 0 ≡ 0)
+  still true true = omega arith
+  still true false = omega arith
+  still false true = omega arith
+  still false false = omega arith
+
+  fourier-on-x : {q : ℕ} → q < n → (x y : Bool)
+      → On d n q none (cond x (zOn n q) (cond y (power d n (neg d 1) (xOn n q)) (power d n (neg d 1) (zOn n q))))
+      (fourier-x x y 1 0) (fourier-z x y 1 0) (fourier-phase y 1 0)
+  fourier-on-x l true true = on-eq (omega arith) (z-on low l)
+  fourier-on-x l true false = on-eq (omega arith) (z-on low l)
+  fourier-on-x l false true = on-eq (omega arith) (x-inverse l)
+  fourier-on-x l false false = on-eq (omega arith) (z-inverse l)
+
+  fourier-on-z : {q : ℕ} → q < n → (x y : Bool)
+      → On d n q none (cond x (power d n (neg d 1) (xOn n q)) (cond y (power d n (neg d 1) (zOn n q)) (xOn n q)))
+      (fourier-x x y 0 1) (fourier-z x y 0 1) (fourier-phase y 0 1)
+  fourier-on-z l true true = on-eq (omega arith) (x-inverse l)
+  fourier-on-z l true false = on-eq (omega arith) (x-inverse l)
+  fourier-on-z l false true = on-eq (omega arith) (z-inverse l)
+  fourier-on-z l false false = on-eq (omega arith) (x-on low l)
+
+  -- Z to the power −k
+  z-minus : {q : ℕ} → q < n → (k : ℕ) → On d n q none (power d n (neg d k) (zOn n q)) 0 (pred d * k) 0
+  z-minus l k = on-cong (cong-refl d 0) (minus d k (omega (arith, dim .low))) (cong-refl d 0) (z-power low l (neg d k))
+
   tables : (op : Operation) → allowed d n op ≡ true → Images n (gateRow d n op) (imageX d n op) (imageZ d n op)
   unfolding imageX imageZ mapped gained tri gatePowers gatePhase
-  tables (Fourier q) h =
-      let l = ltb-true q n h in
-      images low (Fourier q) l (λ a b. pred d * b) (λ a b. a) (λ a b. pred d * (a * b)) (λ v u r. reads-gate dim (Fourier q) h)
-      (omega arith)
-      (on-eq (omega arith) (z-on low l))
-      (on-eq (omega arith) (x-inverse l))
-  tables (PhaseGate q) h =
-      let l = ltb-true q n h in
+  tables (Fourier q k) h =
+      let l = single-facts 4 n q k h .0 in
+      images low (Fourier q k) l (fourier-x (eqb k 1) (eqb k 2)) (fourier-z (eqb k 1) (eqb k 2)) (fourier-phase (eqb k 2))
+      (λ v u r. reads-gate dim (Fourier q k) h)
+      (still (eqb k 1) (eqb k 2))
+      (fourier-on-x l (eqb k 1) (eqb k 2))
+      (fourier-on-z l (eqb k 1) (eqb k 2))
+  tables (PhaseGate q k) h =
+      let l = single-facts d n q k h .0 in
       let p : 0 < d = omega (arith, low) in
       let i =
-      images low (PhaseGate q) l (λ a b. a) (λ a b. b + a) (λ a b. tri a) (λ v u r. reads-gate dim (PhaseGate q) h)
+      images low (PhaseGate q k) l (λ a b. a) (λ a b. b + k * a) (λ a b. k * tri a) (λ v u r. reads-gate dim (PhaseGate q k) h)
       (omega arith)
-      (on-eq (omega arith) (product-on l p (x-on low l) (z-on low l)))
+      (on-eq (omega arith) (product-on l p (x-on low l) (z-power low l k)))
       (on-eq (omega arith) (z-on low l)) in
       record { onX = i .onX; onZ = λ j k. i .onZ j k ∙ idle (zOn n) q j refl }
-  tables (Sum c t) h =
-      let two = apart n c t h in
+  tables (Sum c t k) h =
+      let two = apart n c t (and-eq-true-iff (distinct n c t) (fromOne d k) .0 h .0) in
       let i =
-      images-two low (Sum c t) two (λ a b x y. a) (λ a b x y. b + pred d * y) (λ a b x y. x + a) (λ a b x y. y) (λ a b x y. 0)
-      (λ v u r. reads-gate dim (Sum c t) h)
+      images-two low (Sum c t k) two (λ a b x y. a) (λ a b x y. b + pred d * (k * y)) (λ a b x y. x + k * a) (λ a b x y. y) (λ a b x y. 0)
+      (λ v u r. reads-gate dim (Sum c t k) h)
       (omega arith)
-      (two-eq (omega arith) (of-both low two (x-on low (two .c-low)) (x-on low (two .t-low))))
+      (two-eq (omega arith) (of-both low two (x-on low (two .c-low)) (x-power low (two .t-low) k)))
       (two-eq (omega arith) (of-t low two (x-on low (two .t-low))))
       (two-eq (omega arith) (of-c low two (z-on low (two .c-low))))
-      (two-eq (omega arith) (of-both low two (z-inverse (two .c-low)) (z-on low (two .t-low)))) in
+      (two-eq (omega arith) (of-both low two (z-minus (two .c-low) k) (z-on low (two .t-low)))) in
       record {
         onX = λ j k. i .onX j k ∙ ap (cond (eqb j c) _) (idle (xOn n) t j refl);
-        onZ = λ j k. i .onZ j k ∙ idle (imageZ d n (Sum c t)) c j (rw (ne-eqb c t (two .differ)));
+        onZ = λ j l. i .onZ j l ∙ idle (imageZ d n (Sum c t k)) c j (rw (ne-eqb c t (two .differ)));
       }
-  tables (Cz c t) h =
-      let two = apart n c t h in
+  tables (Cz c t k) h =
+      let two = apart n c t (and-eq-true-iff (distinct n c t) (fromOne d k) .0 h .0) in
       let i =
-      images-two low (Cz c t) two (λ a b x y. a) (λ a b x y. b + x) (λ a b x y. x) (λ a b x y. y + a) (λ a b x y. a * x)
-      (λ v u r. reads-gate dim (Cz c t) h)
+      images-two low (Cz c t k) two (λ a b x y. a) (λ a b x y. b + k * x) (λ a b x y. x) (λ a b x y. y + k * a) (λ a b x y. k * (a * x))
+      (λ v u r. reads-gate dim (Cz c t k) h)
       (omega arith)
-      (two-eq (omega arith) (of-both low two (x-on low (two .c-low)) (z-on low (two .t-low))))
-      (two-eq (omega arith) (of-both low two (z-on low (two .c-low)) (x-on low (two .t-low))))
+      (two-eq (omega arith) (of-both low two (x-on low (two .c-low)) (z-power low (two .t-low) k)))
+      (two-eq (omega arith) (of-both low two (z-power low (two .c-low) k) (x-on low (two .t-low))))
       (two-eq (omega arith) (of-c low two (z-on low (two .c-low))))
       (two-eq (omega arith) (of-t low two (z-on low (two .t-low)))) in
       record {
@@ -207,7 +247,7 @@ module _ (d n : ℕ) (dim : Dimension d) where
       (of-t low two (z-on low (two .t-low)))
       (of-c low two (z-on low (two .c-low)))
   tables (Multiplier q m) h =
-      let l = multiplier-facts d n q m h .0 in
+      let l = single-facts d n q m h .0 in
       images low (Multiplier q m) l (λ a b. m * a) (λ a b. inverse d m * b) (λ a b. 0) (λ v u r. reads-gate dim (Multiplier q m) h)
       (omega arith)
       (on-eq (omega arith) (x-power low l _))

@@ -1,3 +1,4 @@
 pub mod Generators
 pub mod Published
 pub mod Conjugation
+pub mod Repeated

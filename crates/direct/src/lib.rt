@@ -96,7 +96,7 @@ pub fn direct_run(book: &[u8], t: &mut [u8], results: &mut [u8]) -> Answer
             place: 0,
         };
     }
-    if !validity::is_valid(t, d, n) {
+    if !tableau_test::is_valid(t, d, n) {
         return Answer {
             number: 9,
             place: 0,

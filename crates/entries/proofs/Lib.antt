@@ -1,4 +1,5 @@
--- What other proofs use; the bytes of an operation; worked cases.
+-- What other proofs use; the bytes of an operation; the test of an entry; worked cases.
 pub mod Steps
 pub mod Spelling
+pub mod Fitting
 pub mod Cases

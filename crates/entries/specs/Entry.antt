@@ -1,7 +1,7 @@
 -- The entries of the bodies.
 use mathlib.Core.Path.{_≡_}
 use mathlib.Core.Logic.{_↔_}
-use mathlib.Core.Bool.{Bool, true, false, cond, _&&_}
+use mathlib.Core.Bool.{Bool, true, false, cond, not, _&&_}
 use mathlib.Core.List.{List, [], _∷_}
 use Prim.Native.Nat.{ℕ, _+_, _*_}
 use lib.Dec.{eqb}
@@ -19,12 +19,20 @@ use Rattle.entries.specs.declared.Taken.the-variants.{Next, Refused}
 abbrev pub word : List ℕ → ℕ → ℕ
 word s at = getD s at 0 + 256 * getD s (at + 1) 0
 
+-- Byte 3 of Fourier, phase gate, SUM and CZ is how often the gate is applied: 0 means once, and 1 is bad, so that no power has two
+-- spellings.
+abbrev pub timesIn : ℕ → ℕ
+timesIn b = cond (eqb b 0) 1 b
+
+abbrev pub timesByte : ℕ → ℕ
+timesByte k = cond (eqb k 1) 0 k
+
 -- Operations: four bytes each; byte 0 is the code. A byte not named is 0.
 unfoldable pub bytesOf : Operation → List ℕ
-bytesOf (Fourier q) = 0 ∷ q ∷ 0 ∷ 0 ∷ []
-bytesOf (PhaseGate q) = 1 ∷ q ∷ 0 ∷ 0 ∷ []
-bytesOf (Sum c t) = 2 ∷ c ∷ t ∷ 0 ∷ []
-bytesOf (Cz c t) = 3 ∷ c ∷ t ∷ 0 ∷ []
+bytesOf (Fourier q k) = 0 ∷ q ∷ 0 ∷ timesByte k ∷ []
+bytesOf (PhaseGate q k) = 1 ∷ q ∷ 0 ∷ timesByte k ∷ []
+bytesOf (Sum c t k) = 2 ∷ c ∷ t ∷ timesByte k ∷ []
+bytesOf (Cz c t k) = 3 ∷ c ∷ t ∷ timesByte k ∷ []
 bytesOf (Swap c t) = 4 ∷ c ∷ t ∷ 0 ∷ []
 bytesOf (Multiplier q u) = 5 ∷ q ∷ 0 ∷ u ∷ []
 bytesOf (Measure q) = 6 ∷ q ∷ 0 ∷ 0 ∷ []
@@ -33,21 +41,33 @@ abbrev pub when : Bool → Operation → Decoded
 when true op = Good op
 when false op = Bad
 
--- the operation, if its operands are in range and the bytes not named are 0
+-- the operation, if its operands are in range, the bytes not named are 0 and a power of 1 is not written as 1
 abbrev pub given : ℕ → ℕ → Operation → Bool → Decoded
-given d n op unnamed = when (allowed d n op && unnamed) op
+given d n op spelled = when (allowed d n op && spelled) op
 
 -- The operation that four bytes are.
 unfoldable pub decoded : ℕ → ℕ → ℕ → ℕ → ℕ → ℕ → Decoded
 decoded d n b0 b1 b2 b3 =
-    cond (eqb b0 0) (given d n (Fourier b1) (eqb b2 0 && eqb b3 0))
-    (cond (eqb b0 1) (given d n (PhaseGate b1) (eqb b2 0 && eqb b3 0))
-    (cond (eqb b0 2) (given d n (Sum b1 b2) (eqb b3 0))
-    (cond (eqb b0 3) (given d n (Cz b1 b2) (eqb b3 0))
+    cond (eqb b0 0) (given d n (Fourier b1 (timesIn b3)) (eqb b2 0 && not (eqb b3 1)))
+    (cond (eqb b0 1) (given d n (PhaseGate b1 (timesIn b3)) (eqb b2 0 && not (eqb b3 1)))
+    (cond (eqb b0 2) (given d n (Sum b1 b2 (timesIn b3)) (not (eqb b3 1)))
+    (cond (eqb b0 3) (given d n (Cz b1 b2 (timesIn b3)) (not (eqb b3 1)))
     (cond (eqb b0 4) (given d n (Swap b1 b2) (eqb b3 0))
     (cond (eqb b0 5) (given d n (Multiplier b1 b3) (eqb b2 0))
     (cond (eqb b0 6) (given d n (Measure b1) (eqb b2 0 && eqb b3 0))
     Bad))))))
+
+-- The operation of a code, whatever its operands: byte 1 is q or c, byte 2 is t, byte 3 says how often, or is u. Every code from 6 up is
+-- the measurement.
+unfoldable pub coded : ℕ → ℕ → ℕ → ℕ → Operation
+coded b0 b1 b2 b3 =
+    cond (eqb b0 0) (Fourier b1 (timesIn b3))
+    (cond (eqb b0 1) (PhaseGate b1 (timesIn b3))
+    (cond (eqb b0 2) (Sum b1 b2 (timesIn b3))
+    (cond (eqb b0 3) (Cz b1 b2 (timesIn b3))
+    (cond (eqb b0 4) (Swap b1 b2)
+    (cond (eqb b0 5) (Multiplier b1 b3)
+    (Measure b1))))))
 
 -- entry k of a body of operations
 abbrev pub operationAt : ℕ → ℕ → List ℕ → ℕ → Decoded

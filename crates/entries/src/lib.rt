@@ -2,7 +2,8 @@
 ghost use mathlib.Core.Path.{_≡_};
 ghost use Prim.Native.Nat.{_+_, _/_, _<_};
 ghost use lib.ListN.{length};
-ghost use Rattle.entries.specs.Entry.{word, when, decoded, operationAt, stepOf, errorAt};
+ghost use Rattle.entries.specs.Entry.{word, timesIn, decoded, coded, operationAt, stepOf, errorAt};
+ghost use Rattle.entries.specs.Fits.{secondFits, zeroFits, lastLimit, lastFits, fits};
 use operation::Operation;
 use operation::Step;
 use operation::WeylError;
@@ -33,13 +34,80 @@ pub fn word(s: &[u8], at: usize) -> usize
     wide(s[at]) + 256 * wide(s[at + 1])
 }
 
-fn when(test: bool, operation: Operation) -> Decoded
-    ensures { λ r. ⌜ r ≡ when test operation ⌝ }
+// How often a gate is applied: byte 3, where 0 means once.
+pub fn times_in(b: u8) -> u8
+    ensures { λ r. ⌜ r ≡ timesIn b ⌝ }
 {
-    if test {
-        Decoded::Good(operation)
+    if b == 0 { 1 } else { b }
+}
+
+fn second_fits(n: usize, b0: u8, b1: usize, b2: usize) -> bool
+    ensures { λ r. ⌜ r ≡ secondFits n b0 b1 b2 ⌝ }
+{
+    if (2 <= b0) & (b0 <= 4) {
+        (b2 < n) & (b1 != b2)
     } else {
-        Decoded::Bad
+        b2 == 0
+    }
+}
+
+fn zero_fits(d: u8, b0: u8) -> bool
+    ensures { λ r. ⌜ r ≡ zeroFits d b0 ⌝ }
+{
+    if 1 < d {
+        b0 != 5
+    } else {
+        (b0 == 0) | ((b0 == 4) | (b0 == 6))
+    }
+}
+
+fn last_limit(d: u8, b0: u8) -> u8
+    ensures { λ r. ⌜ r ≡ lastLimit d b0 ⌝ }
+{
+    if b0 == 0 {
+        return 4;
+    }
+    if (b0 == 4) | (b0 == 6) { 1 } else { d }
+}
+
+// 0, which most entries have, is asked for first.
+fn last_fits(d: u8, b0: u8, b3: u8) -> bool
+    ensures { λ r. ⌜ r ≡ lastFits d b0 b3 ⌝ }
+{
+    if b3 == 0 {
+        return zero_fits(d, b0);
+    }
+    (b3 < last_limit(d, b0)) & ((b3 != 1) | (b0 == 5))
+}
+
+// Whether four bytes are an operation, without telling every code apart: a processor foresees the jump to a test of each code badly.
+fn fits(d: u8, n: usize, b0: u8, b1: usize, b2: usize, b3: u8) -> bool
+    ensures { λ r. ⌜ r ≡ fits d n b0 b1 b2 b3 ⌝ }
+{
+    ((b0 <= 6) & (b1 < n)) & (second_fits(n, b0, b1, b2) & last_fits(d, b0, b3))
+}
+
+// The operation of a code. Nothing is tested: for bytes that a reader has accepted.
+pub fn coded(b0: u8, b1: usize, b2: usize, b3: u8) -> Operation
+    ensures { λ r. ⌜ r ≡ coded b0 b1 b2 b3 ⌝ }
+{
+    let times = times_in(b3);
+    match b0 {
+        0 => Operation::Fourier { q: b1, times },
+        1 => Operation::PhaseGate { q: b1, times },
+        2 => Operation::Sum {
+            c: b1,
+            t: b2,
+            times,
+        },
+        3 => Operation::Cz {
+            c: b1,
+            t: b2,
+            times,
+        },
+        4 => Operation::Swap { c: b1, t: b2 },
+        5 => Operation::Multiplier { q: b1, u: b3 },
+        _ => Operation::Measure { q: b1 },
     }
 }
 
@@ -47,19 +115,10 @@ fn when(test: bool, operation: Operation) -> Decoded
 fn decode(d: u8, n: usize, b0: u8, b1: usize, b2: usize, b3: u8) -> Decoded
     ensures { λ r. ⌜ r ≡ decoded d n b0 b1 b2 b3 ⌝ }
 {
-    let one = (b1 < n) & ((b2 == 0) & (b3 == 0));
-    let two = ((b1 < n) & ((b2 < n) & (b1 != b2))) & (b3 == 0);
-    let factor = ((b1 < n) & ((1 <= b3) & (b3 < d))) & (b2 == 0);
-    match b0 {
-        0 => when(one, Operation::Fourier { q: b1 }),
-        1 => when(one, Operation::PhaseGate { q: b1 }),
-        2 => when(two, Operation::Sum { c: b1, t: b2 }),
-        3 => when(two, Operation::Cz { c: b1, t: b2 }),
-        4 => when(two, Operation::Swap { c: b1, t: b2 }),
-        5 => when(factor, Operation::Multiplier { q: b1, u: b3 }),
-        6 => when(one, Operation::Measure { q: b1 }),
-        _ => Decoded::Bad,
+    if !fits(d, n, b0, b1, b2, b3) {
+        return Decoded::Bad;
     }
+    Decoded::Good(coded(b0, b1, b2, b3))
 }
 
 // Entry k of a body of operations.

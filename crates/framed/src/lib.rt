@@ -132,7 +132,7 @@ pub fn frame_run(
     if !is_roomy(t, results, shifts, frame, numbers.choices, n) {
         return refused(8, 0);
     }
-    if !validity::is_valid(t, d, n) {
+    if !tableau_test::is_valid(t, d, n) {
         return refused(9, 0);
     }
     let ops = book::part_of(book, 4);

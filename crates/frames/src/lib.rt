@@ -8,44 +8,68 @@ ghost use Rattle.modular.specs.Dimension.{listed};
 ghost use Rattle.row.specs.Row.{Powers};
 ghost use Rattle.operation.specs.declared.Operation.the-variants.{Fourier, PhaseGate, Sum, Cz, Swap, Multiplier};
 ghost use Rattle.operation.specs.Operation.{allowed};
-ghost use Rattle.operation.specs.Gate.{gatePowers, gateFrame};
+ghost use Rattle.operation.specs.Gate.{fourierX, fourierZ, gatePowers, gateFrame};
 ghost use Rattle.operation.specs.Error.{errorAllowed, errorFrame};
 use operation::Operation;
 use operation::WeylError;
 
-pub fn fourier_powers(v: &mut [u8], q: usize, d: u8, n: usize)
+// The X power that k applications of Fourier make of the powers a and b.
+pub fn fourier_x(d: u8, k: u8, a: u8, b: u8) -> u8
+    requires { ⌜ (a < d) × (b < d) ⌝ }
+    ensures { λ r. ⌜ r ≡ fourierX d k a b ⌝ }
+{
+    match k {
+        1 => modular::negative(d, b),
+        2 => modular::negative(d, a),
+        _ => b,
+    }
+}
+
+// The Z power.
+pub fn fourier_z(d: u8, k: u8, a: u8, b: u8) -> u8
+    requires { ⌜ (a < d) × (b < d) ⌝ }
+    ensures { λ r. ⌜ r ≡ fourierZ d k a b ⌝ }
+{
+    match k {
+        1 => a,
+        2 => modular::negative(d, b),
+        _ => modular::negative(d, a),
+    }
+}
+
+fn fourier_powers(v: &mut [u8], q: usize, k: u8, d: u8, n: usize)
     requires { ⌜ (q < n) × Powers d n (now v) ⌝ }
-    ensures { λ _. ⌜ now (v .exit) ≡ gatePowers d n (Fourier q) (now (v .entry)) ⌝ }
+    ensures { λ _. ⌜ now (v .exit) ≡ gatePowers d n (Fourier q k) (now (v .entry)) ⌝ }
 {
     let a = v[q];
     let b = v[n + q];
-    v[q] = modular::negative(d, b);
-    v[n + q] = a;
+    v[q] = fourier_x(d, k, a, b);
+    v[n + q] = fourier_z(d, k, a, b);
 }
 
-fn phase_gate_powers(v: &mut [u8], q: usize, d: u8, n: usize)
-    requires { ⌜ (q < n) × (d ≤ 31) × Powers d n (now v) ⌝ }
-    ensures { λ _. ⌜ now (v .exit) ≡ gatePowers d n (PhaseGate q) (now (v .entry)) ⌝ }
+fn phase_gate_powers(v: &mut [u8], q: usize, k: u8, d: u8, m: u16, n: usize)
+    requires { ⌜ (q < n) × (k < d) × Powers d n (now v) × Reciprocal d m ⌝ }
+    ensures { λ _. ⌜ now (v .exit) ≡ gatePowers d n (PhaseGate q k) (now (v .entry)) ⌝ }
 {
-    v[n + q] = modular::add(d, v[n + q], v[q]);
+    v[n + q] = modular::add(d, v[n + q], modular::multiple(d, m, k, v[q]));
 }
 
-fn sum_powers(v: &mut [u8], c: usize, t: usize, d: u8, n: usize)
-    requires { ⌜ (c < n) × (t < n) × (d ≤ 31) × Powers d n (now v) ⌝ }
-    ensures { λ _. ⌜ now (v .exit) ≡ gatePowers d n (Sum c t) (now (v .entry)) ⌝ }
+fn sum_powers(v: &mut [u8], c: usize, t: usize, k: u8, d: u8, m: u16, n: usize)
+    requires { ⌜ (c < n) × (t < n) × (k < d) × Powers d n (now v) × Reciprocal d m ⌝ }
+    ensures { λ _. ⌜ now (v .exit) ≡ gatePowers d n (Sum c t k) (now (v .entry)) ⌝ }
 {
-    let x = modular::add(d, v[t], v[c]);
-    let z = modular::subtract(d, v[n + c], v[n + t]);
+    let x = modular::add(d, v[t], modular::multiple(d, m, k, v[c]));
+    let z = modular::subtract(d, v[n + c], modular::multiple(d, m, k, v[n + t]));
     v[n + c] = z;
     v[t] = x;
 }
 
-fn cz_powers(v: &mut [u8], c: usize, t: usize, d: u8, n: usize)
-    requires { ⌜ (c < n) × (t < n) × (d ≤ 31) × Powers d n (now v) ⌝ }
-    ensures { λ _. ⌜ now (v .exit) ≡ gatePowers d n (Cz c t) (now (v .entry)) ⌝ }
+fn cz_powers(v: &mut [u8], c: usize, t: usize, k: u8, d: u8, m: u16, n: usize)
+    requires { ⌜ (c < n) × (t < n) × (k < d) × Powers d n (now v) × Reciprocal d m ⌝ }
+    ensures { λ _. ⌜ now (v .exit) ≡ gatePowers d n (Cz c t k) (now (v .entry)) ⌝ }
 {
-    let b = modular::add(d, v[n + c], v[t]);
-    let z = modular::add(d, v[n + t], v[c]);
+    let b = modular::add(d, v[n + c], modular::multiple(d, m, k, v[t]));
+    let z = modular::add(d, v[n + t], modular::multiple(d, m, k, v[c]));
     v[n + c] = b;
     v[n + t] = z;
 }
@@ -86,10 +110,10 @@ pub fn gate_frame(frame: &mut [u8], operation: Operation, d: u8, m: u16, n: usiz
         × Powers d n (now (frame .exit)) ⌝ }
 {
     match operation {
-        Operation::Fourier { q } => fourier_powers(frame, q, d, n),
-        Operation::PhaseGate { q } => phase_gate_powers(frame, q, d, n),
-        Operation::Sum { c, t } => sum_powers(frame, c, t, d, n),
-        Operation::Cz { c, t } => cz_powers(frame, c, t, d, n),
+        Operation::Fourier { q, times } => fourier_powers(frame, q, times, d, n),
+        Operation::PhaseGate { q, times } => phase_gate_powers(frame, q, times, d, m, n),
+        Operation::Sum { c, t, times } => sum_powers(frame, c, t, times, d, m, n),
+        Operation::Cz { c, t, times } => cz_powers(frame, c, t, times, d, m, n),
         Operation::Swap { c, t } => swap_powers(frame, c, t, n),
         Operation::Multiplier { q, u } => multiplier_powers(frame, q, u, d, m, n),
         Operation::Measure { q: _ } => {}

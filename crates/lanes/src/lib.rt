@@ -12,109 +12,112 @@ ghost use Rattle.operation.specs.Error.{errorFrame};
 ghost use Rattle.lanes.specs.Lanes.{lane, Lanes, Each, Alone};
 use operation::WeylError;
 
-fn fourier_lane(v: &mut [u8], q: usize, l: usize, d: u8, n: usize)
+fn fourier_lane(v: &mut [u8], q: usize, k: u8, l: usize, d: u8, n: usize)
     requires { ⌜ (n ≤ 64)
         × (l < 256)
         × (512 * n ≤ length (now v))
         × Powers d n (lane n (now v) l)
         × (q < n) ⌝ }
-    ensures { λ _. ⌜ Alone (gatePowers d n (Fourier q)) n l (now (v .entry)) (now (v .exit)) ⌝ }
+    ensures { λ _. ⌜ Alone (gatePowers d n (Fourier q k)) n l (now (v .entry)) (now (v .exit)) ⌝ }
 {
     let x = 256 * q + l;
     let z = 256 * (n + q) + l;
     let a = v[x];
     let b = v[z];
-    v[x] = modular::negative(d, b);
-    v[z] = a;
+    v[x] = frames::fourier_x(d, k, a, b);
+    v[z] = frames::fourier_z(d, k, a, b);
 }
 
-pub fn fourier_lanes(v: &mut [u8], q: usize, d: u8, n: usize)
+pub fn fourier_lanes(v: &mut [u8], q: usize, k: u8, d: u8, n: usize)
     requires { ⌜ (n ≤ 64) × Lanes d n (now v) × (q < n) ⌝ }
-    ensures { λ _. ⌜ Each (gatePowers d n (Fourier q)) n (now (v .entry)) (now (v .exit)) ⌝ }
+    ensures { λ _. ⌜ Each (gatePowers d n (Fourier q k)) n (now (v .entry)) (now (v .exit)) ⌝ }
 {
     for l in 0..256 {
-        fourier_lane(v, q, l, d, n);
+        fourier_lane(v, q, k, l, d, n);
     }
 }
 
-fn phase_gate_lane(v: &mut [u8], q: usize, l: usize, d: u8, n: usize)
+fn phase_gate_lane(v: &mut [u8], q: usize, k: u8, l: usize, d: u8, m: u16, n: usize)
     requires { ⌜ (n ≤ 64)
         × (l < 256)
         × (512 * n ≤ length (now v))
         × Powers d n (lane n (now v) l)
         × (q < n)
-        × (d ≤ 31) ⌝ }
-    ensures { λ _. ⌜ Alone (gatePowers d n (PhaseGate q)) n l (now (v .entry)) (now (v .exit)) ⌝ }
+        × (k < d)
+        × Reciprocal d m ⌝ }
+    ensures { λ _. ⌜ Alone (gatePowers d n (PhaseGate q k)) n l (now (v .entry)) (now (v .exit)) ⌝ }
 {
     let x = 256 * q + l;
     let z = 256 * (n + q) + l;
-    v[z] = modular::add(d, v[z], v[x]);
+    v[z] = modular::add(d, v[z], modular::multiple(d, m, k, v[x]));
 }
 
-pub fn phase_gate_lanes(v: &mut [u8], q: usize, d: u8, n: usize)
-    requires { ⌜ (n ≤ 64) × Lanes d n (now v) × (q < n) × (d ≤ 31) ⌝ }
-    ensures { λ _. ⌜ Each (gatePowers d n (PhaseGate q)) n (now (v .entry)) (now (v .exit)) ⌝ }
+pub fn phase_gate_lanes(v: &mut [u8], q: usize, k: u8, d: u8, m: u16, n: usize)
+    requires { ⌜ (n ≤ 64) × Lanes d n (now v) × (q < n) × (k < d) × Reciprocal d m ⌝ }
+    ensures { λ _. ⌜ Each (gatePowers d n (PhaseGate q k)) n (now (v .entry)) (now (v .exit)) ⌝ }
 {
     for l in 0..256 {
-        phase_gate_lane(v, q, l, d, n);
+        phase_gate_lane(v, q, k, l, d, m, n);
     }
 }
 
-fn sum_lane(v: &mut [u8], c: usize, t: usize, l: usize, d: u8, n: usize)
+fn sum_lane(v: &mut [u8], c: usize, t: usize, k: u8, l: usize, d: u8, m: u16, n: usize)
     requires { ⌜ (n ≤ 64)
         × (l < 256)
         × (512 * n ≤ length (now v))
         × Powers d n (lane n (now v) l)
         × (c < n)
         × (t < n)
-        × (d ≤ 31) ⌝ }
-    ensures { λ _. ⌜ Alone (gatePowers d n (Sum c t)) n l (now (v .entry)) (now (v .exit)) ⌝ }
+        × (k < d)
+        × Reciprocal d m ⌝ }
+    ensures { λ _. ⌜ Alone (gatePowers d n (Sum c t k)) n l (now (v .entry)) (now (v .exit)) ⌝ }
 {
     let xc = 256 * c + l;
     let xt = 256 * t + l;
     let zc = 256 * (n + c) + l;
     let zt = 256 * (n + t) + l;
-    let x = modular::add(d, v[xt], v[xc]);
-    let z = modular::subtract(d, v[zc], v[zt]);
+    let x = modular::add(d, v[xt], modular::multiple(d, m, k, v[xc]));
+    let z = modular::subtract(d, v[zc], modular::multiple(d, m, k, v[zt]));
     v[zc] = z;
     v[xt] = x;
 }
 
-pub fn sum_lanes(v: &mut [u8], c: usize, t: usize, d: u8, n: usize)
-    requires { ⌜ (n ≤ 64) × Lanes d n (now v) × (c < n) × (t < n) × (d ≤ 31) ⌝ }
-    ensures { λ _. ⌜ Each (gatePowers d n (Sum c t)) n (now (v .entry)) (now (v .exit)) ⌝ }
+pub fn sum_lanes(v: &mut [u8], c: usize, t: usize, k: u8, d: u8, m: u16, n: usize)
+    requires { ⌜ (n ≤ 64) × Lanes d n (now v) × (c < n) × (t < n) × (k < d) × Reciprocal d m ⌝ }
+    ensures { λ _. ⌜ Each (gatePowers d n (Sum c t k)) n (now (v .entry)) (now (v .exit)) ⌝ }
 {
     for l in 0..256 {
-        sum_lane(v, c, t, l, d, n);
+        sum_lane(v, c, t, k, l, d, m, n);
     }
 }
 
-fn cz_lane(v: &mut [u8], c: usize, t: usize, l: usize, d: u8, n: usize)
+fn cz_lane(v: &mut [u8], c: usize, t: usize, k: u8, l: usize, d: u8, m: u16, n: usize)
     requires { ⌜ (n ≤ 64)
         × (l < 256)
         × (512 * n ≤ length (now v))
         × Powers d n (lane n (now v) l)
         × (c < n)
         × (t < n)
-        × (d ≤ 31) ⌝ }
-    ensures { λ _. ⌜ Alone (gatePowers d n (Cz c t)) n l (now (v .entry)) (now (v .exit)) ⌝ }
+        × (k < d)
+        × Reciprocal d m ⌝ }
+    ensures { λ _. ⌜ Alone (gatePowers d n (Cz c t k)) n l (now (v .entry)) (now (v .exit)) ⌝ }
 {
     let xc = 256 * c + l;
     let xt = 256 * t + l;
     let zc = 256 * (n + c) + l;
     let zt = 256 * (n + t) + l;
-    let b = modular::add(d, v[zc], v[xt]);
-    let z = modular::add(d, v[zt], v[xc]);
+    let b = modular::add(d, v[zc], modular::multiple(d, m, k, v[xt]));
+    let z = modular::add(d, v[zt], modular::multiple(d, m, k, v[xc]));
     v[zc] = b;
     v[zt] = z;
 }
 
-pub fn cz_lanes(v: &mut [u8], c: usize, t: usize, d: u8, n: usize)
-    requires { ⌜ (n ≤ 64) × Lanes d n (now v) × (c < n) × (t < n) × (d ≤ 31) ⌝ }
-    ensures { λ _. ⌜ Each (gatePowers d n (Cz c t)) n (now (v .entry)) (now (v .exit)) ⌝ }
+pub fn cz_lanes(v: &mut [u8], c: usize, t: usize, k: u8, d: u8, m: u16, n: usize)
+    requires { ⌜ (n ≤ 64) × Lanes d n (now v) × (c < n) × (t < n) × (k < d) × Reciprocal d m ⌝ }
+    ensures { λ _. ⌜ Each (gatePowers d n (Cz c t k)) n (now (v .entry)) (now (v .exit)) ⌝ }
 {
     for l in 0..256 {
-        cz_lane(v, c, t, l, d, n);
+        cz_lane(v, c, t, k, l, d, m, n);
     }
 }
 

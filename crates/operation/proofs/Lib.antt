@@ -1,6 +1,6 @@
--- Laws of the operations and errors.
+-- Laws of the operations and errors, and worked cases.
+pub mod Cases
 pub mod Operands
 pub mod Stores
 pub mod Gate
 pub mod Error
-pub mod Worked

@@ -1,6 +1,8 @@
 -- The six gates on a row and on a frame, line by line as the table of operations has them. Right-hand sides use old powers.
+use mathlib.Core.Bool.{cond}
 use mathlib.Core.List.{List}
 use Prim.Native.Nat.{ℕ, _+_, _*_, _%_}
+use lib.Dec.{eqb}
 use lib.ListN.{set}
 use Rattle.modular.specs.Modular.{neg, tri}
 use Rattle.modular.specs.Dimension.{inverse}
@@ -19,28 +21,35 @@ withZ n q b v = set v (n + q) b
 abbrev pub withPhase : ℕ → ℕ → List ℕ → List ℕ
 withPhase n r v = set v (2 * n) r
 
--- The powers after a gate. A measurement is no gate, and does nothing here.
---   Fourier      (a,b) becomes (−b,a)
---   phase gate   b gains a
---   SUM          a_t gains a_c; b_c loses b_t
---   CZ           b_c gains a_t; b_t gains a_c
+-- Fourier once, twice and three times: (a,b) becomes (−b,a), (−a,−b) and (b,−a).
+abbrev pub fourierX : ℕ → ℕ → ℕ → ℕ → ℕ
+fourierX d k a b = cond (eqb k 1) (neg d b) (cond (eqb k 2) (neg d a) b)
+
+abbrev pub fourierZ : ℕ → ℕ → ℕ → ℕ → ℕ
+fourierZ d k a b = cond (eqb k 1) a (cond (eqb k 2) (neg d b) (neg d a))
+
+-- The powers after a gate applied k times. A measurement is no gate, and does nothing here.
+--   Fourier      (a,b) becomes (−b,a), (−a,−b) or (b,−a)
+--   phase gate   b gains k·a
+--   SUM          a_t gains k·a_c; b_c loses k·b_t
+--   CZ           b_c gains k·a_t; b_t gains k·a_c
 --   swap         both powers exchanged
 --   multiplier   a times u; b times the inverse of u
 unfoldable pub gatePowers : ℕ → ℕ → Operation → List ℕ → List ℕ
-gatePowers d n (Fourier q) v = withZ n q (xOf v q) (withX q (neg d (zOf n v q)) v)
-gatePowers d n (PhaseGate q) v = withZ n q ((zOf n v q + xOf v q) % d) v
-gatePowers d n (Sum c t) v = withX t ((xOf v t + xOf v c) % d) (withZ n c ((zOf n v c + neg d (zOf n v t)) % d) v)
-gatePowers d n (Cz c t) v = withZ n t ((zOf n v t + xOf v c) % d) (withZ n c ((zOf n v c + xOf v t) % d) v)
+gatePowers d n (Fourier q k) v = withZ n q (fourierZ d k (xOf v q) (zOf n v q)) (withX q (fourierX d k (xOf v q) (zOf n v q)) v)
+gatePowers d n (PhaseGate q k) v = withZ n q ((zOf n v q + k * xOf v q) % d) v
+gatePowers d n (Sum c t k) v = withX t ((xOf v t + k * xOf v c) % d) (withZ n c ((zOf n v c + neg d (k * zOf n v t)) % d) v)
+gatePowers d n (Cz c t k) v = withZ n t ((zOf n v t + k * xOf v c) % d) (withZ n c ((zOf n v c + k * xOf v t) % d) v)
 gatePowers d n (Swap c t) v = withZ n t (zOf n v c) (withX t (xOf v c) (withZ n c (zOf n v t) (withX c (xOf v t) v)))
 gatePowers d n (Multiplier q u) v = withZ n q (zOf n v q * inverse d u % d) (withX q (xOf v q * u % d) v)
 gatePowers d n (Measure q) v = v
 
--- What a gate adds to the phase: Fourier −ab, phase gate a(a−1)/2, CZ a_c·a_t.
+-- What it adds to the phase: Fourier −ab once and three times, nothing twice; phase gate k·a(a−1)/2; CZ k·a_c·a_t.
 unfoldable pub gatePhase : ℕ → ℕ → Operation → List ℕ → ℕ
-gatePhase d n (Fourier q) v = neg d (xOf v q * zOf n v q)
-gatePhase d n (PhaseGate q) v = tri (xOf v q)
-gatePhase d n (Sum c t) v = 0
-gatePhase d n (Cz c t) v = xOf v c * xOf v t
+gatePhase d n (Fourier q k) v = cond (eqb k 2) 0 (neg d (xOf v q * zOf n v q))
+gatePhase d n (PhaseGate q k) v = k * tri (xOf v q)
+gatePhase d n (Sum c t k) v = 0
+gatePhase d n (Cz c t k) v = k * (xOf v c * xOf v t)
 gatePhase d n (Swap c t) v = 0
 gatePhase d n (Multiplier q u) v = 0
 gatePhase d n (Measure q) v = 0

@@ -1,3 +1,4 @@
 pub mod Operation
 pub mod Gate
 pub mod Error
+pub mod Repeated

@@ -9,12 +9,16 @@ use Rattle.operation.specs.declared.Operation.the-variants.{Fourier, Pha
 abbrev pub distinct : ℕ → ℕ → ℕ → Bool
 distinct n c t = ltb c n && (ltb t n && not (eqb c t))
 
--- u from 1 to d−1
+-- k from 1 to m−1
+abbrev pub fromOne : ℕ → ℕ → Bool
+fromOne m k = leb 1 k && ltb k m
+
+-- Fourier is applied 1 to 3 times, whatever d is; phase gate, SUM and CZ 1 to d−1 times; u from 1 to d−1.
 abbrev pub allowed : ℕ → ℕ → Operation → Bool
-allowed d n (Fourier q) = ltb q n
-allowed d n (PhaseGate q) = ltb q n
-allowed d n (Sum c t) = distinct n c t
-allowed d n (Cz c t) = distinct n c t
+allowed d n (Fourier q k) = ltb q n && fromOne 4 k
+allowed d n (PhaseGate q k) = ltb q n && fromOne d k
+allowed d n (Sum c t k) = distinct n c t && fromOne d k
+allowed d n (Cz c t k) = distinct n c t && fromOne d k
 allowed d n (Swap c t) = distinct n c t
-allowed d n (Multiplier q u) = ltb q n && (leb 1 u && ltb u d)
+allowed d n (Multiplier q u) = ltb q n && fromOne d u
 allowed d n (Measure q) = ltb q n

@@ -1,11 +1,12 @@
 // The seven operations, a step, and an error.
 
-// Each case has the operands of its line in the table of operations: q, c and t are qudits, u is a factor.
+// Each case has the operands of its line in the table of operations: q, c and t are qudits, u is a factor, and `times` says how often
+// the gate is applied.
 pub enum Operation {
-    Fourier { q: usize },
-    PhaseGate { q: usize },
-    Sum { c: usize, t: usize },
-    Cz { c: usize, t: usize },
+    Fourier { q: usize, times: u8 },
+    PhaseGate { q: usize, times: u8 },
+    Sum { c: usize, t: usize, times: u8 },
+    Cz { c: usize, t: usize, times: u8 },
     Swap { c: usize, t: usize },
     Multiplier { q: usize, u: u8 },
     Measure { q: usize },

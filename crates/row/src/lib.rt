@@ -3,7 +3,7 @@ ghost use mathlib.Core.Path.{_≡_};
 ghost use Prim.Native.Nat.{_+_, _*_, _%_, _<_, _≤_};
 ghost use lib.ListN.{length};
 ghost use Rattle.modular.specs.Modular.{neg, Reciprocal, WideReciprocal};
-ghost use Rattle.row.specs.Row.{Powers, Row, tab, rowOf, dot, sumAt, product, pairing};
+ghost use Rattle.row.specs.Row.{xOf, Powers, Row, tab, rowOf, dot, sumAt, product, pairing};
 ghost use Rattle.row.specs.Generators.{unit};
 ghost use Rattle.row.specs.Fill.{filled, multipleAt};
 ghost use Rattle.row.specs.Multiple.{XPowers, Multiple};
@@ -12,6 +12,17 @@ pub fn wide(x: u8) -> u16
     ensures { λ r. ⌜ r ≡ x ⌝ }
 {
     x as u16
+}
+
+// The first n bytes of v as numbers of 16 bits: a sum of products then needs no widening.
+pub fn widen(xs: &mut [u16], v: &[u8], n: usize)
+    requires { ⌜ (n ≤ length (now xs))
+        × (n ≤ length (now v)) ⌝ }
+    ensures { λ _. ⌜ now (xs .exit) ≡ filled (xOf (now (v .entry))) (now (xs .entry)) n ⌝ }
+{
+    for k in 0..n {
+        xs[k] = wide(v[k]);
+    }
 }
 
 // Σ b·a' over the qudits, b of v and a' of w: at most 64·30·30, which fits.

@@ -20,10 +20,10 @@ use Rattle.run.specs.Run.{onward, noted}
 use Rattle.run.specs.Direct.{State, directLook, directKind, directStrike, directStep, directRun}
 
 pub is-measure : (op : Operation) (q : ℕ) → kind op ≡ measures q → op ≡ Measure q
-is-measure (Fourier c) q e = cc
-is-measure (PhaseGate c) q e = cc
-is-measure (Sum c t) q e = cc
-is-measure (Cz c t) q e = cc
+is-measure (Fourier c k) q e = cc
+is-measure (PhaseGate c k) q e = cc
+is-measure (Sum c t k) q e = cc
+is-measure (Cz c t k) q e = cc
 is-measure (Swap c t) q e = cc
 is-measure (Multiplier c u) q e = cc
 is-measure (Measure c) q e = cc

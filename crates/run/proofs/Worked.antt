@@ -35,7 +35,7 @@ record Both (n : ℕ) (ops : List Operation) (errors : List WeylError) (choices 
 -- Fourier 0, SUM 0 1, then both qudits are measured; X on qudit 1 before operation 2; choices 2 and 0. The first result is free,
 -- the second certain.
 abbrev Book : Type 0
-Book = Both 2 (Fourier 0 ∷ Sum 0 1 ∷ Measure 0 ∷ Measure 1 ∷ []) (record { place = 2; qudit = 1; p = 1; s = 0 } ∷ []) (2 ∷ 0 ∷ []) (2 ∷ 1 ∷ [])
+Book = Both 2 (Fourier 0 1 ∷ Sum 0 1 1 ∷ Measure 0 ∷ Measure 1 ∷ []) (record { place = 2; qudit = 1; p = 1; s = 0 } ∷ []) (2 ∷ 0 ∷ []) (2 ∷ 1 ∷ [])
     (1 ∷ 0 ∷ 0 ∷ 0 ∷ 0
     ∷ 0 ∷ 1 ∷ 0 ∷ 0 ∷ 0
     ∷ 0 ∷ 0 ∷ 1 ∷ 0 ∷ 0
@@ -55,14 +55,14 @@ Book = Both 2 (Fourier 0 ∷ Sum 0 1 ∷ Measure 0 ∷ Measure 1 ∷ []) (record
 
 -- One qudit: X before the only operation, Z after it.
 abbrev Ends : Type 0
-Ends = Both 1 (Fourier 0 ∷ []) (record { place = 0; qudit = 0; p = 1; s = 0 } ∷ record { place = 1; qudit = 0; p = 0; s = 1 } ∷ []) [] []
+Ends = Both 1 (Fourier 0 1 ∷ []) (record { place = 0; qudit = 0; p = 1; s = 0 } ∷ record { place = 1; qudit = 0; p = 0; s = 1 } ∷ []) [] []
     (1 ∷ 0 ∷ 0 ∷ 0 ∷ 1 ∷ 0 ∷ [])
     []
     (record { rows = 0 ∷ 1 ∷ 0 ∷ 2 ∷ 0 ∷ 1 ∷ []; results = []; shifts = 0 ∷ 1 ∷ []; frame = 0 ∷ 2 ∷ []; verdict = 1 })
 
 -- A certain measurement takes its choice, so the free one takes the second; X just before it raises that.
 abbrev Free : Type 0
-Free = Both 1 (Measure 0 ∷ Fourier 0 ∷ Measure 0 ∷ []) (record { place = 2; qudit = 0; p = 1; s = 0 } ∷ []) (1 ∷ 2 ∷ []) (1 ∷ 0 ∷ [])
+Free = Both 1 (Measure 0 ∷ Fourier 0 1 ∷ Measure 0 ∷ []) (record { place = 2; qudit = 0; p = 1; s = 0 } ∷ []) (1 ∷ 2 ∷ []) (1 ∷ 0 ∷ [])
     (1 ∷ 0 ∷ 0 ∷ 0 ∷ 1 ∷ 0 ∷ [])
     (9 ∷ 9 ∷ 9 ∷ 9 ∷ [])
     (record { rows = 1 ∷ 0 ∷ 0 ∷ 0 ∷ 1 ∷ 0 ∷ []; results = 0 ∷ 0 ∷ 0 ∷ 1 ∷ []; shifts = 0 ∷ 2 ∷ []; frame = 1 ∷ 0 ∷ []; verdict = 1 })

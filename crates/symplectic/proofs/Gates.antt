@@ -163,18 +163,45 @@ fourier e n q l =
     law : (a b a' b' : ℕ) → Cong (suc e) (b * a' + e * ((a + a') * (b + b'))) (e * (a * b) + e * (a' * b') + a * (e * b'))
     law a b a' b' = record { p = 0; q = b * a'; eq = omega arith }
 
-zero-tri : (d : ℕ) → Cong d (tri 0) 0
-unfolding tri
-zero-tri d = cong-refl d 0
+-- twice, and three times
+pub fourier-twice : (e n q : ℕ) → q < n → Hom (suc e) n (λ u. put n q (e * u q) (e * u (n + q)) u) (λ u. 0)
+fourier-twice e n q l =
+    gate1 (suc e) n q l (λ u. e * u q) (λ u. e * u (n + q)) (λ u. 0)
+    (times (suc e) n e (λ u. u q) (at (suc e) n q (omega arith)))
+    (times (suc e) n e (λ u. u (n + q)) (at (suc e) n (n + q) (omega arith)))
+    (λ u w h. cong-refl (suc e) 0)
+    (cong-refl (suc e) 0)
+    (λ u w. law (u (n + q)) (w q))
+  where
+    law : (b a' : ℕ) → Cong (suc e) (b * a' + 0) (0 + 0 + e * b * (e * a'))
+    law b a' = record { p = e * (b * a'); q = b * a'; eq = omega arith }
 
-pub phase-gate : (f n q : ℕ) → q < n → Hom (suc (f + f)) n (λ u. put n q (u q) (u (n + q) + u q) u) (λ u. tri (u q))
-phase-gate f n q l =
-    gate1 (suc (f + f)) n q l (λ u. u q) (λ u. u (n + q) + u q) (λ u. tri (u q))
+pub fourier-thrice : (e n q : ℕ) → q < n → Hom (suc e) n (λ u. put n q (u (n + q)) (e * u q) u) (λ u. e * (u q * u (n + q)))
+fourier-thrice e n q l =
+    gate1 (suc e) n q l (λ u. u (n + q)) (λ u. e * u q) (λ u. e * (u q * u (n + q)))
+    (at (suc e) n (n + q) (omega arith))
+    (times (suc e) n e (λ u. u q) (at (suc e) n q (omega arith)))
+    (λ u w h. cong-mul-left e (cong-mul (h q (omega arith)) (h (n + q) (omega arith))))
+    (cong-eq (suc e) (omega arith))
+    (λ u w. law (u q) (u (n + q)) (w q) (w (n + q)))
+  where
+    law : (a b a' b' : ℕ) → Cong (suc e) (b * a' + e * ((a + a') * (b + b'))) (e * (a * b) + e * (a' * b') + e * a * b')
+    law a b a' b' = record { p = 0; q = b * a'; eq = omega arith }
+
+zero-tri : (d k : ℕ) → Cong d (k * tri 0) 0
+unfolding tri
+zero-tri d k = cong-eq d (omega arith)
+
+-- phase gate, SUM and CZ, each applied k times
+pub phase-gate : (f n q k : ℕ) → q < n → Hom (suc (f + f)) n (λ u. put n q (u q) (u (n + q) + k * u q) u) (λ u. k * tri (u q))
+phase-gate f n q k l =
+    gate1 (suc (f + f)) n q l (λ u. u q) (λ u. u (n + q) + k * u q) (λ u. k * tri (u q))
     (at (suc (f + f)) n q (omega arith))
-    (plus (suc (f + f)) n (λ u. u (n + q)) (λ u. u q) (at (suc (f + f)) n (n + q) (omega arith)) (at (suc (f + f)) n q (omega arith)))
-    (λ u w h. tri-cong f (h q (omega arith)))
-    (zero-tri (suc (f + f)))
-    (λ u w. cong-eq (suc (f + f)) (omega (arith, tri-add (u q) (w q))))
+    (plus (suc (f + f)) n (λ u. u (n + q)) (λ u. k * u q) (at (suc (f + f)) n (n + q) (omega arith))
+    (times (suc (f + f)) n k (λ u. u q) (at (suc (f + f)) n q (omega arith))))
+    (λ u w h. cong-mul-left k (tri-cong f (h q (omega arith))))
+    (zero-tri (suc (f + f)) k)
+    (λ u w. cong-eq (suc (f + f)) (omega (arith, ap (λ (z : ℕ). k * z) (tri-add (u q) (w q)))))
 
 pub multiplier : (d n q m w : ℕ) → q < n → Cong d (m * w) 1 → Hom d n (λ u. put n q (m * u q) (w * u (n + q)) u) (λ u. 0)
 multiplier d n q m w l h =
@@ -186,35 +213,37 @@ multiplier d n q m w l h =
     (λ u x.
     cong-trans (cong-trans (cong-eq d (omega arith)) (cong-sym (cong-mul-left (u (n + q) * x q) h))) (cong-eq d (omega arith)))
 
-pub sum-gate : (e n c t : ℕ) → c < n → t < n → ¬ (c ≡ t)
-    → Hom (suc e) n (λ u. put n t (u t + u c) (u (n + t)) (put n c (u c) (u (n + c) + e * u (n + t)) u)) (λ u. 0)
-sum-gate e n c t lc lt ne =
-    gate2 (suc e) n c t lc lt ne (λ u. u c) (λ u. u (n + c) + e * u (n + t)) (λ u. u t + u c) (λ u. u (n + t)) (λ u. 0)
+pub sum-gate : (e n c t k : ℕ) → c < n → t < n → ¬ (c ≡ t)
+    → Hom (suc e) n (λ u. put n t (u t + k * u c) (u (n + t)) (put n c (u c) (u (n + c) + e * (k * u (n + t))) u)) (λ u. 0)
+sum-gate e n c t k lc lt ne =
+    gate2 (suc e) n c t lc lt ne (λ u. u c) (λ u. u (n + c) + e * (k * u (n + t))) (λ u. u t + k * u c) (λ u. u (n + t)) (λ u. 0)
     (at (suc e) n c (omega arith))
-    (plus (suc e) n (λ u. u (n + c)) (λ u. e * u (n + t)) (at (suc e) n (n + c) (omega arith))
-    (times (suc e) n e (λ u. u (n + t)) (at (suc e) n (n + t) (omega arith))))
-    (plus (suc e) n (λ u. u t) (λ u. u c) (at (suc e) n t (omega arith)) (at (suc e) n c (omega arith)))
+    (plus (suc e) n (λ u. u (n + c)) (λ u. e * (k * u (n + t))) (at (suc e) n (n + c) (omega arith))
+    (times (suc e) n e (λ u. k * u (n + t)) (times (suc e) n k (λ u. u (n + t)) (at (suc e) n (n + t) (omega arith)))))
+    (plus (suc e) n (λ u. u t) (λ u. k * u c) (at (suc e) n t (omega arith))
+    (times (suc e) n k (λ u. u c) (at (suc e) n c (omega arith))))
     (at (suc e) n (n + t) (omega arith))
     (λ u w h. cong-refl (suc e) 0)
     (cong-refl (suc e) 0)
     (λ u w. law (u (n + c)) (w c) (u (n + t)) (w t))
   where
-    law : (b a' y x' : ℕ) → Cong (suc e) (b * a' + y * x' + 0) (0 + 0 + ((b + e * y) * a' + y * (x' + a')))
-    law b a' y x' = record { p = y * a'; q = 0; eq = omega arith }
+    law : (b a' y x' : ℕ) → Cong (suc e) (b * a' + y * x' + 0) (0 + 0 + ((b + e * (k * y)) * a' + y * (x' + k * a')))
+    law b a' y x' = record { p = k * (y * a'); q = 0; eq = omega arith }
 
-pub cz : (d n c t : ℕ) → c < n → t < n → ¬ (c ≡ t)
-    → Hom d n (λ u. put n t (u t) (u (n + t) + u c) (put n c (u c) (u (n + c) + u t) u)) (λ u. u c * u t)
-cz d n c t lc lt ne =
-    gate2 d n c t lc lt ne (λ u. u c) (λ u. u (n + c) + u t) (λ u. u t) (λ u. u (n + t) + u c) (λ u. u c * u t)
+pub cz : (d n c t k : ℕ) → c < n → t < n → ¬ (c ≡ t)
+    → Hom d n (λ u. put n t (u t) (u (n + t) + k * u c) (put n c (u c) (u (n + c) + k * u t) u)) (λ u. k * (u c * u t))
+cz d n c t k lc lt ne =
+    gate2 d n c t lc lt ne (λ u. u c) (λ u. u (n + c) + k * u t) (λ u. u t) (λ u. u (n + t) + k * u c) (λ u. k * (u c * u t))
     (at d n c (omega arith))
-    (plus d n (λ u. u (n + c)) (λ u. u t) (at d n (n + c) (omega arith)) (at d n t (omega arith)))
+    (plus d n (λ u. u (n + c)) (λ u. k * u t) (at d n (n + c) (omega arith)) (times d n k (λ u. u t) (at d n t (omega arith))))
     (at d n t (omega arith))
-    (plus d n (λ u. u (n + t)) (λ u. u c) (at d n (n + t) (omega arith)) (at d n c (omega arith)))
-    (λ u w h. cong-mul (h c (omega arith)) (h t (omega arith)))
-    (cong-refl d 0)
+    (plus d n (λ u. u (n + t)) (λ u. k * u c) (at d n (n + t) (omega arith)) (times d n k (λ u. u c) (at d n c (omega arith))))
+    (λ u w h. cong-mul-left k (cong-mul (h c (omega arith)) (h t (omega arith))))
+    (cong-eq d (omega arith))
     (λ u w. cong-eq d (law (u c) (u (n + c)) (u t) (u (n + t)) (w c) (w t)))
   where
-    law : (a b x y a' x' : ℕ) → b * a' + y * x' + (a + a') * (x + x') ≡ a * x + a' * x' + ((b + x) * a' + (y + a) * x')
+    law : (a b x y a' x' : ℕ)
+        → b * a' + y * x' + k * ((a + a') * (x + x')) ≡ k * (a * x) + k * (a' * x') + ((b + k * x) * a' + (y + k * a) * x')
     law a b x y a' x' = omega arith
 
 pub swap-gate : (d n c t : ℕ) → c < n → t < n → ¬ (c ≡ t)

@@ -56,6 +56,16 @@ pub fn product(tables: &[u8], d: u8, x: u8, y: u8) -> u8
     tables[96 + (x as usize * 32 + y as usize)]
 }
 
+// k·x. Where k is known to be 1, the compiler leaves out the lookup.
+pub fn multiple(tables: &[u8], d: u8, k: u8, x: u8) -> u8
+    requires { ⌜ Tables d (now tables)
+        × (k < d)
+        × (x < d) ⌝ }
+    ensures { λ r. ⌜ r ≡ k * x % d ⌝ }
+{
+    if k == 1 { x } else { product(tables, d, k, x) }
+}
+
 // x(x − 1)/2
 pub fn triangle(tables: &[u8], d: u8, x: u8) -> u8
     requires { ⌜ Tables d (now tables)

@@ -55,7 +55,7 @@ pub fn tray_run(book: &[u8], tray: &[u8], t: &[u8], out: &mut [u8]) -> TrayAnswe
     if !is_roomy(t, out, numbers.choices, shots, n) {
         return refused(8, 0);
     }
-    if !validity::is_valid(t, d, n) {
+    if !tableau_test::is_valid(t, d, n) {
         return refused(9, 0);
     }
     let shifted = shots_run::run(

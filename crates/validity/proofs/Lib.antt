@@ -1,4 +1,3 @@
--- The theorem on the definitions, and what the proofs of several functions use.
+-- The theorem on the definitions, and a case of the test.
 pub mod Exactly
-pub mod Laying
-pub mod Combined
+pub mod Cases

@@ -1,2 +1,1 @@
 pub mod Validity
-pub mod Columns

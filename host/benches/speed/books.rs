@@ -1,7 +1,7 @@
 //! The books that are timed, drawn alike on every machine.
 
 use crate::common::plain;
-use crate::common::{Rng, draw_gate};
+use crate::common::{Rng, draw_gate, draw_single};
 use cagvost::book::{Book, MAX_ERRORS, MAX_OPERATIONS, Operation};
 
 /// What a full book has beside its 2,048 errors.
@@ -10,8 +10,10 @@ pub enum Mix {
     /// One operation in sixteen is a measurement, and one of four of these repeats the last. At
     /// the end all qudits are measured.
     Mixed,
-    /// Gates alone.
+    /// Gates alone, each applied once.
     Gates,
+    /// Gates alone, and about half of those that have powers are applied a drawn number of times.
+    Powers,
     /// Multipliers alone. Each takes an inverse, and in a frame run two.
     Multipliers,
     /// 1,024 times three gates and the measurement of one of the last eight qudits, or of the last
@@ -27,6 +29,7 @@ impl Mix {
         match self {
             Mix::Mixed => "mixed",
             Mix::Gates => "gates",
+            Mix::Powers => "powers",
             Mix::Multipliers => "multipliers",
             Mix::Measuring => "measuring",
             Mix::Measurements => "measurements",
@@ -45,7 +48,8 @@ pub fn full(mix: Mix, d: u8, n: u8) -> Book {
         }
         match mix {
             Mix::Mixed => mixed(&mut rng, k, &mut book),
-            Mix::Gates => _ = book.operation(draw_gate(&mut rng, d, n)),
+            Mix::Gates => _ = book.operation(draw_single(&mut rng, d, n)),
+            Mix::Powers => _ = book.operation(draw_gate(&mut rng, d, n)),
             Mix::Multipliers => _ = book.operation(multiplier(&mut rng, d, n)),
             Mix::Measuring => measuring(&mut rng, k, &mut book),
             Mix::Measurements => _ = book.measure(rng.byte_below(n), rng.byte_below(d)),
@@ -68,7 +72,7 @@ fn mixed(rng: &mut Rng, k: usize, book: &mut Book) {
         let q = again.filter(|_| rng.once_in(4));
         book.measure(q.unwrap_or(rng.byte_below(n)), rng.byte_below(d));
     } else {
-        book.operation(draw_gate(rng, d, n));
+        book.operation(draw_single(rng, d, n));
     }
 }
 
@@ -87,20 +91,21 @@ fn measuring(rng: &mut Rng, k: usize, book: &mut Book) {
     let others = n - measured;
     let q = others + (k / 4 % usize::from(measured)) as u8;
     match k % 4 {
-        0 => book.operation(draw_gate(rng, d, others)),
+        0 => book.operation(draw_single(rng, d, others)),
         1 => book.operation(Operation::Cz {
             c: q,
             t: rng.byte_below(others),
+            times: 1,
         }),
-        2 => book.operation(Operation::Fourier { q }),
+        2 => book.operation(Operation::Fourier { q, times: 1 }),
         _ => book.measure(q, rng.byte_below(d)),
     };
 }
 
-/// The largest book of one gate, without errors.
-pub fn of_one_gate(d: u8, n: u8, gate: Operation) -> Book {
+/// So many entries of one gate, without errors.
+pub fn of_one_gate(d: u8, n: u8, gate: Operation, count: usize) -> Book {
     let mut book = Book::new(d, n);
-    for _ in 0..MAX_OPERATIONS {
+    for _ in 0..count {
         book.operation(gate);
     }
     book
@@ -127,7 +132,7 @@ pub fn of_measurements(d: u8, n: u8, count: usize) -> Book {
 /// A valid tableau without order: the zero tableau after a full book of gates.
 pub fn dense_tableau(d: u8, n: u8) -> Vec<u8> {
     let mut rng = Rng(1000 + u64::from(d));
-    after_gates(d, n, || draw_gate(&mut rng, d, n))
+    after_gates(d, n, || draw_single(&mut rng, d, n))
 }
 
 /// A valid tableau in which every measurement is certain, as the product of many stabilizers: with
@@ -136,7 +141,7 @@ pub fn certain_tableau(d: u8, n: u8) -> Vec<u8> {
     let mut rng = Rng(1000 + u64::from(d));
     after_gates(d, n, || {
         loop {
-            let gate = draw_gate(&mut rng, d, n);
+            let gate = draw_single(&mut rng, d, n);
             if !matches!(gate, Operation::Fourier { .. }) {
                 return gate;
             }

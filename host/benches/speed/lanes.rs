@@ -3,6 +3,7 @@
 //!
 //! - The circuit is run once without errors, by `tuned.rs` with the specification's phases. A shot
 //!   has its results, raised by its frame; one without errors has them as they are and takes no lane.
+//! - A power of a gate is one pass over the lanes too, on 16 bits with one reduction.
 //! - For every place there is a linked list of the lanes whose next error is there. The library
 //!   keeps lists for 256 places at a time instead, which are easier to prove and somewhat slower.
 //! - Results are gathered in tiles of 64 measurements by 256 lanes, and turned by shuffles of whole
@@ -12,7 +13,8 @@
 //!   twice as long.
 
 use crate::tuned::{
-    Book, Modulo, Specified, Told, add, dot, is_valid, read, run_rows, tableau_len, two_bytes,
+    Book, Modulo, Specified, Told, add, dot, is_power, is_valid, read, run_rows, tableau_len,
+    two_bytes,
 };
 use cagvost::book::MAX_OPERATIONS;
 
@@ -36,25 +38,61 @@ fn gain(d: u8, x: &mut Line, y: &Line) {
 
 fn lose(d: u8, x: &mut Line, y: &Line) {
     for (x, &y) in x.iter_mut().zip(y) {
-        let rest = x.wrapping_sub(y);
-        *x = rest.min(rest.wrapping_add(d));
+        *x = subtract(d, *x, y);
     }
+}
+
+fn subtract(d: u8, x: u8, y: u8) -> u8 {
+    let rest = x.wrapping_sub(y);
+    rest.min(rest.wrapping_add(d))
 }
 
 fn turn(d: u8, x: &mut Line, z: &mut Line) {
     for (x, z) in x.iter_mut().zip(z) {
-        let minus = z.wrapping_neg();
-        (*x, *z) = (minus.min(minus.wrapping_add(d)), *x);
+        (*x, *z) = (subtract(d, 0, *z), *x);
     }
 }
 
-/// Each number times u. The quotient by d of a product below 1,024 is found by a product.
-fn multiply(d: u8, x: &mut Line, u: u8) {
-    let reciprocal = (65536 / u32::from(d) + 1) as u16;
+fn negate(d: u8, x: &mut Line) {
     for x in x {
-        let product = u16::from(*x) * u16::from(u);
-        let quotient = ((u32::from(product) * u32::from(reciprocal)) >> 16) as u16;
-        *x = product.wrapping_sub(quotient.wrapping_mul(d.into())) as u8;
+        *x = subtract(d, 0, *x);
+    }
+}
+
+/// Each number times u.
+fn multiply(d: u8, x: &mut Line, u: u8) {
+    let by = Divisor::new(d);
+    for x in x {
+        *x = by.rest(u16::from(*x) * u16::from(u));
+    }
+}
+
+/// Each number gains the other one times u: many gains in one pass.
+fn gain_times(d: u8, x: &mut Line, y: &Line, u: u8) {
+    let by = Divisor::new(d);
+    for (x, &y) in x.iter_mut().zip(y) {
+        *x = by.rest(u16::from(*x) + u16::from(y) * u16::from(u));
+    }
+}
+
+/// Finds rests of numbers below 1,024: the quotient by d is found by a product.
+#[derive(Clone, Copy)]
+struct Divisor {
+    d: u16,
+    reciprocal: u16,
+}
+
+impl Divisor {
+    fn new(d: u8) -> Divisor {
+        Divisor {
+            d: d.into(),
+            reciprocal: (65536 / u32::from(d) + 1) as u16,
+        }
+    }
+
+    fn rest(self, x: u16) -> u8 {
+        let quotient = ((u32::from(x) * u32::from(self.reciprocal)) >> 16) as u16;
+        x.wrapping_sub(quotient.wrapping_mul(self.d)) as u8
     }
 }
 
@@ -63,7 +101,7 @@ fn two(lines: &mut [Line; QUDITS], c: usize, t: usize) -> [&mut Line; 2] {
     lines.get_disjoint_mut([c, t]).expect("two qudits")
 }
 
-/// The gate on all lanes.
+/// A gate that is applied once, on all lanes.
 #[inline(never)]
 fn gate(x: &mut [Line; QUDITS], z: &mut [Line; QUDITS], entry: &[u8], m: &Modulo) {
     let (d, q, t) = (
@@ -93,6 +131,35 @@ fn gate(x: &mut [Line; QUDITS], z: &mut [Line; QUDITS], entry: &[u8], m: &Modulo
         _ => {
             multiply(d, &mut x[q], entry[3]);
             multiply(d, &mut z[q], m.inverse(entry[3]));
+        }
+    }
+}
+
+/// The power of a gate on all lanes.
+#[inline(never)]
+fn power(x: &mut [Line; QUDITS], z: &mut [Line; QUDITS], entry: &[u8], d: u8) {
+    let (q, t, k) = (
+        usize::from(entry[1]) % QUDITS,
+        usize::from(entry[2]) % QUDITS,
+        entry[3],
+    );
+    match (entry[0], k) {
+        (0, 2) => {
+            negate(d, &mut x[q]);
+            negate(d, &mut z[q]);
+        }
+        // Three times is backwards.
+        (0, _) => turn(d, &mut z[q], &mut x[q]),
+        (1, _) => gain_times(d, &mut z[q], &x[q], k),
+        (2, _) => {
+            let [control, target] = two(x, q, t);
+            gain_times(d, target, control, k);
+            let [control, target] = two(z, q, t);
+            gain_times(d, control, target, d - k);
+        }
+        _ => {
+            gain_times(d, &mut z[q], &x[t], k);
+            gain_times(d, &mut z[t], &x[q], k);
         }
     }
 }
@@ -208,6 +275,10 @@ impl Block {
         for (k, entry) in circuit.book.operations.chunks_exact(4).enumerate() {
             if self.first[k] != NONE {
                 self.strike(tray, k, d);
+            }
+            if is_power(entry) {
+                power(&mut self.x, &mut self.z, entry, d);
+                continue;
             }
             if entry[0] != 6 {
                 gate(&mut self.x, &mut self.z, entry, &circuit.modulo);

@@ -12,12 +12,13 @@ mod calls;
 #[path = "../../tests/common/mod.rs"]
 mod common;
 mod lanes;
+mod powers;
 mod timing;
 mod trays;
 mod tuned;
 
 use books::{Mix, certain_tableau, dense_tableau};
-use cagvost::book::{Book, Operation};
+use cagvost::book::{Book, MAX_OPERATIONS, Operation};
 use calls::{CAGVOST, Columns, DIRECT, FRAME, Job, PLAIN, TEST, TUNED, WRITE};
 use common::zero_tableau;
 use std::thread;
@@ -67,6 +68,7 @@ fn main() {
     }
     if !trays && !quick {
         multipliers();
+        full_of_powers();
         writing();
     }
     if !quick {
@@ -122,6 +124,7 @@ fn runs(sizes: &Sizes) {
     single_errors();
     full_books(sizes);
     single_operations(sizes);
+    powers::powers(sizes.dimensions);
 }
 
 fn full_books(sizes: &Sizes) {
@@ -164,6 +167,17 @@ fn multipliers() {
     }
 }
 
+fn full_of_powers() {
+    head(
+        "Full books of gates, about half of those that have powers applied up to 30 times by one entry \
+         (Fourier: 3):\n4,096 of them, 2,048 errors.",
+        "µs per call",
+    );
+    for n in FRAME_QUDITS {
+        full_book(Mix::Powers, 31, n);
+    }
+}
+
 fn single_operations(sizes: &Sizes) {
     head(
         "Single operations on 64 qudits, by direct runs of books that repeat one. A run without \
@@ -174,7 +188,7 @@ fn single_operations(sizes: &Sizes) {
         let dense = dense_tableau(d, QUDITS);
         let idle = Job::new(&Book::new(d, QUDITS), dense.clone());
         for (name, gate) in gates() {
-            let book = books::of_one_gate(d, QUDITS, gate);
+            let book = books::of_one_gate(d, QUDITS, gate, MAX_OPERATIONS);
             let job = Job::new(&book, dense.clone());
             single(&format!("d {d:<2} {name}, of 4,096"), 4096, &job, &idle);
         }
@@ -215,10 +229,10 @@ fn single(label: &str, count: usize, job: &Job, idle: &Job) {
 fn gates() -> [(&'static str, Operation); 6] {
     let (q, c, t) = (9, 9, 20);
     [
-        ("Fourier", Operation::Fourier { q }),
-        ("phase gate", Operation::PhaseGate { q }),
-        ("SUM", Operation::Sum { c, t }),
-        ("CZ", Operation::Cz { c, t }),
+        ("Fourier", Operation::Fourier { q, times: 1 }),
+        ("phase gate", Operation::PhaseGate { q, times: 1 }),
+        ("SUM", Operation::Sum { c, t, times: 1 }),
+        ("CZ", Operation::Cz { c, t, times: 1 }),
         ("swap", Operation::Swap { c, t }),
         ("multiplier", Operation::Multiplier { q, u: 2 }),
     ]

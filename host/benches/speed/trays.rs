@@ -1,11 +1,11 @@
 //! Trays: the package beside Rust lanes, separate frame runs and the plain Rust.
 
 use crate::books::dense_tableau;
-use crate::common::trays::{Lent, Told, draw_circuit, numbers, separate};
-use crate::common::{Rng, draw_error, plain};
+use crate::common::trays::{Lent, Told, draw_circuit_of, numbers, separate};
+use crate::common::{Rng, draw_error, draw_gate, draw_single, plain};
 use crate::lanes;
 use crate::timing::{Times, summary};
-use cagvost::book::{Book, MAX_OPERATIONS};
+use cagvost::book::{Book, MAX_OPERATIONS, Operation};
 use cagvost::{MAX_SHOTS, Tray};
 use std::hint::black_box;
 use std::time::{Duration, Instant};
@@ -49,6 +49,8 @@ struct Sizes {
     /// The mean number of errors in a shot.
     errors: f64,
     measurements: usize,
+    /// Draws the gates of the circuit.
+    gate: fn(&mut Rng, u8, u8) -> Operation,
 }
 
 /// The whole tray and a few of its shots.
@@ -65,7 +67,7 @@ impl Job {
         let Sizes { d, n, .. } = sizes;
         let mut rng = Rng(u64::from(d) * 100 + u64::from(n));
         let gates = MAX_OPERATIONS - sizes.measurements;
-        let book = draw_circuit(&mut rng, d, n, gates, sizes.measurements);
+        let book = draw_circuit_of(sizes.gate, &mut rng, d, n, gates, sizes.measurements);
         let (mut whole, mut few, mut chosen, mut empty) = (Tray::new(), Tray::new(), vec![], 0);
         for i in 0..MAX_SHOTS {
             let body = draw_body(&mut rng, &book, sizes.errors);
@@ -155,7 +157,7 @@ type Fault = (usize, fn(&mut Lent));
 
 /// Cagvost, the Rust lanes and the plain Rust refuse alike. Nothing is timed.
 fn compare_refusals() {
-    let mut book = draw_circuit(&mut Rng(6), 5, 2, 3, 1);
+    let mut book = draw_circuit_of(draw_single, &mut Rng(6), 5, 2, 3, 1);
     book.strike(1, 1, 1);
     let mut tray = Tray::new();
     tray.body(&[0, 0, 1, 4, 4, 4, 0, 0, 0, 4])
@@ -223,7 +225,7 @@ d   n  err. meas. empty clean    least  median   least  median    least    least
     );
 }
 
-/// Every rate of errors and number of measurements at one size, and then the other sizes.
+/// Every rate of errors and number of measurements at one size, then the other sizes, then powers.
 pub fn trays() {
     compare_refusals();
     head();
@@ -232,6 +234,7 @@ pub fn trays() {
         n: 64,
         errors: 41.0,
         measurements: 64,
+        gate: draw_single,
     };
     for errors in [0.4, 4.0, 41.0, 410.0] {
         for measurements in [0, 64, 1000] {
@@ -245,4 +248,12 @@ pub fn trays() {
     for (d, n) in [(3, 24), (3, 64), (5, 24), (31, 24), (31, 64)] {
         line(Sizes { d, n, ..usual });
     }
+    println!(
+        "About half of the gates that have powers applied up to 30 times by one entry (Fourier: 3):"
+    );
+    line(Sizes {
+        d: 31,
+        gate: draw_gate,
+        ..usual
+    });
 }

@@ -9,6 +9,8 @@
 //! - Tables of rests, products, inverses and triangle numbers for single bytes, made once for each
 //!   run: what walks down a column of a row-major tableau is not vectorised, and a look-up is
 //!   cheaper there than arithmetic. They are as long as it takes for a byte to need no check.
+//! - A power of a gate is one pass over the rows, with one look-up more where it adds a multiple. A
+//!   gate applied once has a loop of its own, without that.
 //! - The rows that a free measurement changes are listed first, without a branch. The two that it
 //!   overwrites are not among them.
 //! - A gate on the frame works on the powers alone.
@@ -279,9 +281,12 @@ pub trait Phases {
 
     fn fourier(rows: &mut [u8], n: usize, q: usize, m: &Modulo);
 
-    fn phase_gate(rows: &mut [u8], n: usize, q: usize, m: &Modulo);
+    /// The Fourier gate applied three times, which undoes it.
+    fn fourier_back(rows: &mut [u8], n: usize, q: usize, m: &Modulo);
 
-    fn cz(rows: &mut [u8], n: usize, pair: (usize, usize), m: &Modulo);
+    fn phase_gate(rows: &mut [u8], n: usize, q: usize, multiple: impl Multiple, m: &Modulo);
+
+    fn cz(rows: &mut [u8], n: usize, pair: (usize, usize), multiple: impl Multiple, m: &Modulo);
 
     /// The outcome that the weighted product of the stabilizers fixes.
     fn certain(rows: &[u8], n: usize, q: usize, m: &Modulo) -> u8;
@@ -295,11 +300,28 @@ pub trait Phases {
 
 // ---- Gates and errors on every row
 
-fn sum(rows: &mut [u8], n: usize, (c, t): (usize, usize), m: &Modulo) {
+/// x times the number of applications: where a gate applied once adds x, its power adds this.
+pub trait Multiple: Fn(u8) -> u8 {}
+
+impl<F: Fn(u8) -> u8> Multiple for F {}
+
+/// The Fourier gate applied twice. It moves no kind of phase.
+fn fourier_twice(rows: &mut [u8], n: usize, q: usize, m: &Modulo) {
+    let (w, z) = (2 * n + 1, n + q);
+    assert!(q < w && z < w);
+    for row in rows.chunks_exact_mut(w) {
+        let (a, b) = (row[q], row[z]);
+        row[q] = m.rest(a.wrapping_neg());
+        row[z] = m.rest(b.wrapping_neg());
+    }
+}
+
+fn sum(rows: &mut [u8], n: usize, (c, t): (usize, usize), multiple: impl Multiple, m: &Modulo) {
     let (w, zc, zt) = (2 * n + 1, n + c, n + t);
     assert!(c < w && t < w && zc < w && zt < w);
     for row in rows.chunks_exact_mut(w) {
-        let (a, b) = (row[t].wrapping_add(row[c]), row[zc].wrapping_sub(row[zt]));
+        let a = row[t].wrapping_add(multiple(row[c]));
+        let b = row[zc].wrapping_sub(multiple(row[zt]));
         row[t] = m.rest(a);
         row[zc] = m.rest(b);
     }
@@ -328,20 +350,39 @@ fn multiplier(rows: &mut [u8], n: usize, q: usize, u: u8, m: &Modulo) {
     }
 }
 
-/// The gate on every row.
+/// Whether an operation is a gate that is applied more than once.
+pub fn is_power(entry: &[u8]) -> bool {
+    entry[0] < 4 && entry[3] != 0
+}
+
+/// A gate that is applied once, on every row.
 fn gate<P: Phases>(rows: &mut [u8], n: usize, entry: &[u8], m: &Modulo) {
     let (q, t) = (usize::from(entry[1]), usize::from(entry[2]));
+    let once = |x| x;
     match entry[0] {
         0 => P::fourier(rows, n, q, m),
-        1 => P::phase_gate(rows, n, q, m),
-        2 => sum(rows, n, (q, t), m),
-        3 => P::cz(rows, n, (q, t), m),
+        1 => P::phase_gate(rows, n, q, once, m),
+        2 => sum(rows, n, (q, t), once, m),
+        3 => P::cz(rows, n, (q, t), once, m),
         4 => swap(rows, n, (q, t)),
         _ => multiplier(rows, n, q, entry[3], m),
     }
 }
 
-/// The gate on a frame, which has no phase.
+/// The power of a gate on every row.
+fn power<P: Phases>(rows: &mut [u8], n: usize, entry: &[u8], m: &Modulo) {
+    let (q, t, k) = (usize::from(entry[1]), usize::from(entry[2]), entry[3]);
+    let multiple = |x| m.product(k, x);
+    match (entry[0], k) {
+        (0, 2) => fourier_twice(rows, n, q, m),
+        (0, _) => P::fourier_back(rows, n, q, m),
+        (1, _) => P::phase_gate(rows, n, q, multiple, m),
+        (2, _) => sum(rows, n, (q, t), multiple, m),
+        _ => P::cz(rows, n, (q, t), multiple, m),
+    }
+}
+
+/// A gate that is applied once, on a frame, which has no phase.
 fn gate_frame(frame: &mut [u8], n: usize, entry: &[u8], m: &Modulo) {
     let (x, z) = frame.split_at_mut(n);
     let (q, t, u) = (usize::from(entry[1]), usize::from(entry[2]), entry[3]);
@@ -363,6 +404,26 @@ fn gate_frame(frame: &mut [u8], n: usize, entry: &[u8], m: &Modulo) {
         _ => {
             x[q] = m.product(u, x[q]);
             z[q] = m.product(m.inverse(u), z[q]);
+        }
+    }
+}
+
+/// The power of a gate on a frame.
+fn power_frame(frame: &mut [u8], n: usize, entry: &[u8], m: &Modulo) {
+    let (x, z) = frame.split_at_mut(n);
+    let (q, t, k) = (usize::from(entry[1]), usize::from(entry[2]), entry[3]);
+    let minus = |x: u8| m.rest(x.wrapping_neg());
+    match (entry[0], k) {
+        (0, 2) => (x[q], z[q]) = (minus(x[q]), minus(z[q])),
+        (0, _) => (x[q], z[q]) = (z[q], minus(x[q])),
+        (1, _) => z[q] = add(m.d, z[q], m.product(k, x[q])),
+        (2, _) => {
+            x[t] = add(m.d, x[t], m.product(k, x[q]));
+            z[q] = m.rest(z[q].wrapping_sub(m.product(k, z[t])));
+        }
+        _ => {
+            z[q] = add(m.d, z[q], m.product(k, x[t]));
+            z[t] = add(m.d, z[t], m.product(k, x[q]));
         }
     }
 }
@@ -552,11 +613,18 @@ fn bodies(book: &[u8]) -> Result<[&[u8]; 3], Told> {
 
 fn is_operation(d: u32, n: u32, entry: &[u8]) -> bool {
     let entry = code_first(entry);
-    let [code, q, t, u] = [0, 8, 16, 24].map(|by| (entry >> by) & 255);
-    let (two, many) = ((code > 1) & (code < 5), code == 5);
+    let [code, q, t, k] = [0, 8, 16, 24].map(|by| (entry >> by) & 255);
+    let two = (code > 1) & (code < 5);
     let second = (two & (t < n) & (t != q)) | (!two & (t == 0));
-    let third = (many & (u > 0) & (u < d)) | (!many & (u == 0));
-    (code < 7) & (q < n) & second & third
+    // Fourier has powers 2 and 3. Swap and measure, the codes 100 and 110, have 0 alone.
+    let end = match code {
+        0 => 4,
+        _ if code & 0b101 == 0b100 => 1,
+        _ => d,
+    };
+    // The multiplier has no factor 0, and no power is spelled 1.
+    let barred = if code == 5 { 0 } else { 1 };
+    (code < 7) & (q < n) & second & (k < end) & (k != barred)
 }
 
 /// The bytes of an operation as one number, the code in the lowest bits.
@@ -729,6 +797,10 @@ fn strike_along<P: Phases>(
         while let Some(error) = take_error(&mut errors, k) {
             strike(rows, n, error, modulo);
         }
+        if is_power(entry) {
+            power::<P>(rows, n, entry, modulo);
+            continue;
+        }
         if entry[0] != 6 {
             gate::<P>(rows, n, entry, modulo);
             continue;
@@ -785,6 +857,11 @@ fn carry_along<P: Phases>(
     for (k, entry) in book.operations.chunks_exact(4).enumerate() {
         while let Some(error) = take_error(&mut errors, k) {
             carry(frame, n, error, modulo.d);
+        }
+        if is_power(entry) {
+            power::<P>(rows, n, entry, modulo);
+            power_frame(frame, n, entry, modulo);
+            continue;
         }
         if entry[0] != 6 {
             gate::<P>(rows, n, entry, modulo);

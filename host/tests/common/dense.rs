@@ -99,18 +99,26 @@ impl State {
         }
     }
 
-    /// Does a gate; a measurement needs its outcome, and is done by `collapse`.
+    /// Does a gate as often as it is applied, singly; a measurement needs its outcome, and is done by
+    /// `collapse`.
     pub fn gate(&mut self, operation: Operation) {
+        for _ in 0..super::times_of(operation) {
+            self.gate_once(operation);
+        }
+    }
+
+    /// Applies a gate once, however often it is to be applied.
+    fn gate_once(&mut self, operation: Operation) {
         let d = self.d;
         match operation {
-            Operation::Fourier { q } => self.fourier(q.into()),
-            Operation::PhaseGate { q } => {
+            Operation::Fourier { q, .. } => self.fourier(q.into()),
+            Operation::PhaseGate { q, .. } => {
                 self.diagonal(|s, i| s.level(i, q) * s.level(i, q).saturating_sub(1) / 2)
             }
-            Operation::Sum { c, t } => {
+            Operation::Sum { c, t, .. } => {
                 self.permute(|s, i| s.with(i, t, (s.level(i, t) + s.level(i, c)) % d))
             }
-            Operation::Cz { c, t } => self.diagonal(|s, i| s.level(i, c) * s.level(i, t)),
+            Operation::Cz { c, t, .. } => self.diagonal(|s, i| s.level(i, c) * s.level(i, t)),
             Operation::Swap { c, t } => {
                 self.permute(|s, i| s.with(s.with(i, c, s.level(i, t)), t, s.level(i, c)))
             }

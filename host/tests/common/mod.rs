@@ -26,8 +26,8 @@ pub const PAPER_BOOK: [u8; 45] = [
 /// The same book, built; its bytes are held to the specification's.
 pub fn paper_book() -> Book {
     let mut book = Book::new(3, 2);
-    book.operation(Operation::Fourier { q: 0 })
-        .operation(Operation::Sum { c: 0, t: 1 })
+    book.operation(Operation::Fourier { q: 0, times: 1 })
+        .operation(sum(0, 1))
         .strike(1, 1, 0)
         .measure(0, 2)
         .measure(1, 0);
@@ -62,6 +62,50 @@ pub fn every_factor() -> impl Iterator<Item = (u8, u8)> {
 /// The rest of x·y.
 pub fn times(d: u8, x: u8, y: u8) -> u8 {
     (u16::from(x) * u16::from(y) % u16::from(d)) as u8
+}
+
+// ---- Powers
+
+/// SUM, applied once.
+pub fn sum(c: u8, t: u8) -> Operation {
+    Operation::Sum { c, t, times: 1 }
+}
+
+/// CZ, applied once.
+pub fn cz(c: u8, t: u8) -> Operation {
+    Operation::Cz { c, t, times: 1 }
+}
+
+/// How often an operation is applied.
+pub fn times_of(operation: Operation) -> u8 {
+    match operation {
+        Operation::Fourier { times, .. }
+        | Operation::PhaseGate { times, .. }
+        | Operation::Sum { times, .. }
+        | Operation::Cz { times, .. } => times,
+        Operation::Swap { .. } | Operation::Multiplier { .. } | Operation::Measure { .. } => 1,
+    }
+}
+
+/// How often one entry can apply it at most.
+pub fn most_times(d: u8, operation: Operation) -> u8 {
+    match operation {
+        Operation::Fourier { .. } => 3,
+        Operation::PhaseGate { .. } | Operation::Sum { .. } | Operation::Cz { .. } => d - 1,
+        Operation::Swap { .. } | Operation::Multiplier { .. } | Operation::Measure { .. } => 1,
+    }
+}
+
+/// The operation applied so often; one that has no powers stays as it is.
+pub fn with_times(mut operation: Operation, k: u8) -> Operation {
+    match &mut operation {
+        Operation::Fourier { times, .. }
+        | Operation::PhaseGate { times, .. }
+        | Operation::Sum { times, .. }
+        | Operation::Cz { times, .. } => *times = k,
+        Operation::Swap { .. } | Operation::Multiplier { .. } | Operation::Measure { .. } => {}
+    }
+    operation
 }
 
 // ---- Drawing
@@ -109,12 +153,22 @@ fn draw_two(rng: &mut Rng, n: u8) -> (u8, u8) {
     (c, if t < c { t } else { t + 1 })
 }
 
-/// A gate; one qudit alone gets no gate on two.
+/// A gate, half of the time with a drawn number of applications.
 pub fn draw_gate(rng: &mut Rng, d: u8, n: u8) -> Operation {
+    let gate = draw_single(rng, d, n);
+    if rng.once_in(2) {
+        return gate;
+    }
+    with_times(gate, 1 + rng.byte_below(most_times(d, gate)))
+}
+
+/// A gate that is applied once; one qudit alone gets no gate on two. The benchmark's books are made
+/// of these.
+pub fn draw_single(rng: &mut Rng, d: u8, n: u8) -> Operation {
     let q = rng.byte_below(n);
     match rng.below(if n == 1 { 5 } else { 10 }) {
-        0 | 1 => Operation::Fourier { q },
-        2 | 3 => Operation::PhaseGate { q },
+        0 | 1 => Operation::Fourier { q, times: 1 },
+        2 | 3 => Operation::PhaseGate { q, times: 1 },
         4 => Operation::Multiplier {
             q,
             u: 1 + rng.byte_below(d - 1),
@@ -122,8 +176,8 @@ pub fn draw_gate(rng: &mut Rng, d: u8, n: u8) -> Operation {
         kind => {
             let (c, t) = draw_two(rng, n);
             match kind {
-                5 | 6 => Operation::Sum { c, t },
-                7 | 8 => Operation::Cz { c, t },
+                5 | 6 => Operation::Sum { c, t, times: 1 },
+                7 | 8 => Operation::Cz { c, t, times: 1 },
                 _ => Operation::Swap { c, t },
             }
         }
@@ -200,6 +254,16 @@ pub fn draw_book(rng: &mut Rng, shape: Shape) -> Book {
             let gate = draw_gate(rng, shape.d, shape.n);
             book.operation(gate);
         }
+    }
+    book
+}
+
+/// A book that strikes each qudit with powers that are not 0, so that what becomes of each is seen.
+pub fn draw_struck(rng: &mut Rng, d: u8, n: u8) -> Book {
+    let mut book = Book::new(d, n);
+    for q in 0..n {
+        let [p, s] = [0, 0].map(|_| 1 + rng.byte_below(d - 1));
+        book.strike(q, p, s);
     }
     book
 }

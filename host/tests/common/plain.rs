@@ -137,12 +137,13 @@ fn expected(d: i64, n: usize, i: usize, j: usize) -> i64 {
 
 // ---- Operations
 
+/// An operation on its qudits. The last number of the first four is how often it is applied.
 #[derive(Clone, Copy, Debug, PartialEq, Eq)]
 pub enum Op {
-    Fourier(usize),
-    Phase(usize),
-    Sum(usize, usize),
-    Cz(usize, usize),
+    Fourier(usize, i64),
+    Phase(usize, i64),
+    Sum(usize, usize, i64),
+    Cz(usize, usize, i64),
     Swap(usize, usize),
     Multiplier(usize, i64),
     Measure(usize),
@@ -151,41 +152,62 @@ pub enum Op {
 /// The operation that four bytes mean, if they mean one.
 pub fn decode(d: i64, n: usize, entry: &[u8]) -> Option<Op> {
     let at = |i: usize| usize::from(entry[i]);
-    let one = at(1) < n && at(2) == 0 && at(3) == 0;
-    let two = at(1) < n && at(2) < n && at(1) != at(2) && at(3) == 0;
-    let factor = i64::from(entry[3]);
-    let many = at(1) < n && at(2) == 0 && factor >= 1 && factor < d;
+    let last = i64::from(entry[3]);
+    let one = at(1) < n && at(2) == 0;
+    let two = at(1) < n && at(2) < n && at(1) != at(2);
     match entry[0] {
-        0 if one => Some(Op::Fourier(at(1))),
-        1 if one => Some(Op::Phase(at(1))),
-        2 if two => Some(Op::Sum(at(1), at(2))),
-        3 if two => Some(Op::Cz(at(1), at(2))),
-        4 if two => Some(Op::Swap(at(1), at(2))),
-        5 if many => Some(Op::Multiplier(at(1), factor)),
-        6 if one => Some(Op::Measure(at(1))),
+        0 if one => Some(Op::Fourier(at(1), applications(last, 3)?)),
+        1 if one => Some(Op::Phase(at(1), applications(last, d - 1)?)),
+        2 if two => Some(Op::Sum(at(1), at(2), applications(last, d - 1)?)),
+        3 if two => Some(Op::Cz(at(1), at(2), applications(last, d - 1)?)),
+        4 if two && last == 0 => Some(Op::Swap(at(1), at(2))),
+        5 if one && last >= 1 && last < d => Some(Op::Multiplier(at(1), last)),
+        6 if one && last == 0 => Some(Op::Measure(at(1))),
         _ => None,
     }
 }
 
-/// The gate on one row; a measurement does nothing here.
+/// How many applications the last byte means: 0 is once, 2 up to the most are that many, and 1 is
+/// none of the numbers.
+fn applications(last: i64, most: i64) -> Option<i64> {
+    match last {
+        0 => Some(1),
+        1 => None,
+        _ if last <= most => Some(last),
+        _ => None,
+    }
+}
+
+/// The gate on one row, each of its applications by itself; a measurement does nothing here.
 pub fn gate(d: i64, op: Op, row: &mut Row) {
+    let times = match op {
+        Op::Fourier(_, k) | Op::Phase(_, k) | Op::Sum(_, _, k) | Op::Cz(_, _, k) => k,
+        Op::Swap(..) | Op::Multiplier(..) | Op::Measure(_) => 1,
+    };
+    for _ in 0..times {
+        gate_once(d, op, row);
+    }
+}
+
+/// One application of the gate on one row, however many it has.
+fn gate_once(d: i64, op: Op, row: &mut Row) {
     match op {
-        Op::Fourier(q) => {
+        Op::Fourier(q, _) => {
             let (a, b) = (row.a[q], row.b[q]);
             row.a[q] = modulo(d, -b);
             row.b[q] = a;
             row.r = modulo(d, row.r - a * b);
         }
-        Op::Phase(q) => {
+        Op::Phase(q, _) => {
             let a = row.a[q];
             row.b[q] = (row.b[q] + a) % d;
             row.r = (row.r + a * (a - 1) / 2) % d;
         }
-        Op::Sum(c, t) => {
+        Op::Sum(c, t, _) => {
             row.a[t] = (row.a[t] + row.a[c]) % d;
             row.b[c] = modulo(d, row.b[c] - row.b[t]);
         }
-        Op::Cz(c, t) => {
+        Op::Cz(c, t, _) => {
             row.b[c] = (row.b[c] + row.a[t]) % d;
             row.b[t] = (row.b[t] + row.a[c]) % d;
             row.r = (row.r + row.a[c] * row.a[t]) % d;

@@ -2,7 +2,7 @@
 
 use super::frames::Buffers;
 use super::{Rng, UNWRITTEN, draw_error, draw_gate, draw_tableau, plain, with_tail, zero_tableau};
-use cagvost::book::{Book, WeylError};
+use cagvost::book::{Book, Operation, WeylError};
 use cagvost::{Refusal, Tray, TrayCounts};
 
 /// A number, its place or how many shots were clean, and how many were shifted.
@@ -125,9 +125,21 @@ fn written([operations, errors, choices]: [&[u8]; 3], d: u8, n: u8) -> Vec<u8> {
     book
 }
 
-/// A book without errors that has just so many gates and measurements, in drawn order. A measurement
-/// sometimes repeats the last, so that certain outcomes are common.
+/// A book without errors that has just so many gates and measurements, in drawn order.
 pub fn draw_circuit(rng: &mut Rng, d: u8, n: u8, gates: usize, measurements: usize) -> Book {
+    draw_circuit_of(draw_gate, rng, d, n, gates, measurements)
+}
+
+/// The same with gates that are drawn in this way. A measurement sometimes repeats the last, so that
+/// certain outcomes are common.
+pub fn draw_circuit_of(
+    gate: fn(&mut Rng, u8, u8) -> Operation,
+    rng: &mut Rng,
+    d: u8,
+    n: u8,
+    gates: usize,
+    measurements: usize,
+) -> Book {
     let mut book = Book::new(d, n);
     let (mut left, mut last) = (measurements, 0);
     for k in (1..=gates + measurements).rev() {
@@ -140,7 +152,7 @@ pub fn draw_circuit(rng: &mut Rng, d: u8, n: u8, gates: usize, measurements: usi
             };
             book.measure(last, rng.byte_below(d));
         } else {
-            book.operation(draw_gate(rng, d, n));
+            book.operation(gate(rng, d, n));
         }
     }
     book

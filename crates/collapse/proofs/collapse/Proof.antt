@@ -4,7 +4,7 @@ use mathlib.Core.Path.{_≡_, refl, sym}
 use Prim.Native.Nat.{_+_, _*_, _≤_}
 use native.Mathlib.Nat.{add-sub-cancel-left}
 use native.Mathlib.Omega.{arith}
-use lib.ListN.{length}
+use lib.ListN.{length, replicate}
 use lib.Seq.{length-take-le}
 use borrow.Author.Needs.{needs}
 use Rattle.modular.proofs.Listed.{dimension}
@@ -12,7 +12,7 @@ use Rattle.tableau.specs.Tableau.{part, row}
 use Rattle.tableau.proofs.Parts.{row-room, tableau-row}
 use Rattle.collapse.specs.declared.Measurement.{Measurement}
 use Rattle.collapse.specs.Setting.{pivotIn, Setting}
-use Rattle.collapse.proofs.Stored.{powers-none, prepared}
+use Rattle.collapse.proofs.Stored.{widened, powers-none, prepared}
 use Rattle.collapse.proofs.Sweep.{measured-is}
 use Rattle.collapse.proofs.collapse.Statement.{statement}
 use Rattle.collapse.proofs.collapse.Tie as tie
@@ -89,7 +89,7 @@ clear-requires c κs =
     let g = c .before .before .before .before .before .before .before .before .before .before .before .before .before .before in
     let p = g .before .before .before .before .before .before .before .before .before .pre in
     let h = holds g in
-    (c .before .before .before .before .before .changing .ensures .1, p .6, p .5, h .1, rw (h .0) (simp add-sub-cancel-left at (c .before .before .before .before .before .before .before .before .before .widen .ensures)))
+    (c .before .before .before .before .before .changing .ensures .1, p .6, p .5, h .1, rw (h .0) (widened _ _ (replicate 64 0) (p .1) (simp add-sub-cancel-left at (c .before .before .before .before .before .before .before .before .before .widen .ensures))))
 
 replace-requires : tie.Need-replace-requires
 replace-requires c κs = (c .before .before .before .before .clear .ensures .1, holds (c .before .before .before .before .before .before .before .before .before .before .before .before .before .before .before .before .before .before .before) .1)

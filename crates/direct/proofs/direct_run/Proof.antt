@@ -1,5 +1,6 @@
 -- `direct::direct_run` meets its contract.
 -- Assumes nothing.
+use mathlib.Core.Path.{refl}
 use native.Mathlib.Omega.{arith}
 use denote.Ref.{now}
 use borrow.Author.Needs.{needs}
@@ -107,17 +108,17 @@ direct-run-spec =
     (λ c κs. search needs)
     returns
     is-roomy-requires
-    (λ c. search needs)
-    (λ c. search needs)
+    (λ c. refl)
+    (λ c. refl)
     returns-2
     is-valid-requires
-    (λ c. search needs)
-    (λ c. search needs)
+    (λ c. refl)
+    (λ c. refl)
     returns-3
     part-of-requires
     part-of-requires-2
     part-of-requires-3
     run-requires
-    (λ c. search needs)
-    (λ c. search needs)
+    (λ c. c .before .before .before .t .given)
+    (λ c. c .before .results .given)
     returns-4)

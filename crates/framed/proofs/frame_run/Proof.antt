@@ -1,5 +1,6 @@
 -- `framed::frame_run` meets its contract.
 -- Assumes nothing.
+use mathlib.Core.Path.{refl}
 use native.Mathlib.Omega.{arith}
 use denote.Ref.{now}
 use borrow.Author.Needs.{needs}
@@ -134,24 +135,24 @@ frame-run-spec =
     returns
     is-roomy-requires
     refused-requires-2
-    (λ c. search needs)
-    (λ c. search needs)
-    (λ c. search needs)
-    (λ c. search needs)
+    (λ c. refl)
+    (λ c. refl)
+    (λ c. refl)
+    (λ c. refl)
     returns-2
     is-valid-requires
     refused-requires-3
-    (λ c. search needs)
-    (λ c. search needs)
-    (λ c. search needs)
-    (λ c. search needs)
+    (λ c. refl)
+    (λ c. refl)
+    (λ c. refl)
+    (λ c. refl)
     returns-3
     part-of-requires
     part-of-requires-2
     part-of-requires-3
     run-requires
-    (λ c. search needs)
-    (λ c. search needs)
-    (λ c. search needs)
-    (λ c. search needs)
+    (λ c. c .before .before .before .before .before .before .before .t .given)
+    (λ c. c .before .before .before .before .before .results .given)
+    (λ c. c .before .before .before .shifts .given)
+    (λ c. c .before .frame .given)
     returns-4)

@@ -5,7 +5,6 @@ use mathlib.Core.Bool.{true}
 use mathlib.Core.List.{List}
 use Prim.Native.Nat.{ℕ}
 use native.Mathlib.Omega.{arith}
-use borrow.Author.Tests.{ltb-true}
 use borrow.Author.Needs.{needs}
 use Rattle.modular.specs.Dimension.{listed}
 use Rattle.modular.proofs.Listed.{dimension}
@@ -14,7 +13,7 @@ use Rattle.operation.specs.declared.Operation.{Operation}
 use Rattle.operation.specs.Operation.{allowed}
 use Rattle.operation.specs.Gate.{gatePowers, gateFrame}
 use Rattle.operation.proofs.Gate.{gate-powers}
-use Rattle.operation.proofs.Operands.{distinct-facts, multiplier-facts}
+use Rattle.operation.proofs.Operands.{distinct-facts, single-facts, pair-facts}
 use Rattle.frames.proofs.gate_frame.Statement.{statement}
 use Rattle.frames.proofs.gate_frame.Tie as tie
 
@@ -26,24 +25,25 @@ kept d n l op h {v} p e = (e, rw e (gate-powers d n (omega (arith, dimension d l
 fourier-powers-requires : tie.Need-fourier-powers-requires
 fourier-powers-requires c κs =
     let s = c .before .before .before .before .before in
-    (ltb-true _ _ (rw (c .before .before .operation .given .1) at (s .pre .1)), s .pre .2)
+    (single-facts 4 _ _ (c .before .before .operation .given .0 .1 .0) (rw (c .before .before .operation .given .1) at (s .pre .1)) .0, s .pre .2)
 
 phase-gate-powers-requires : tie.Need-phase-gate-powers-requires
 phase-gate-powers-requires c κs =
     let s = c .before .before .before .before .before in
-    (ltb-true _ _ (rw (c .before .before .operation2 .given .1) at (s .pre .1)), s .pre .3 .high, s .pre .2)
+    let f = single-facts _ _ _ _ (rw (c .before .before .operation2 .given .1) at (s .pre .1)) in
+    (f .0, f .2, s .pre .2, s .pre .3)
 
 sum-powers-requires : tie.Need-sum-powers-requires
 sum-powers-requires c κs =
     let s = c .before .before .before .before .before in
-    let f = distinct-facts _ _ _ (rw (c .before .before .operation3 .given .1) at (s .pre .1)) in
-    (f .0, f .1, s .pre .3 .high, s .pre .2)
+    let f = pair-facts _ _ _ _ _ (rw (c .before .before .operation3 .given .1) at (s .pre .1)) in
+    (f .0, f .1, f .4, s .pre .2, s .pre .3)
 
 cz-powers-requires : tie.Need-cz-powers-requires
 cz-powers-requires c κs =
     let s = c .before .before .before .before .before in
-    let f = distinct-facts _ _ _ (rw (c .before .before .operation4 .given .1) at (s .pre .1)) in
-    (f .0, f .1, s .pre .3 .high, s .pre .2)
+    let f = pair-facts _ _ _ _ _ (rw (c .before .before .operation4 .given .1) at (s .pre .1)) in
+    (f .0, f .1, f .4, s .pre .2, s .pre .3)
 
 swap-powers-requires : tie.Need-swap-powers-requires
 swap-powers-requires c κs =
@@ -54,7 +54,7 @@ swap-powers-requires c κs =
 multiplier-powers-requires : tie.Need-multiplier-powers-requires
 multiplier-powers-requires c κs =
     let s = c .before .before .before .before .before in
-    let f = multiplier-facts _ _ _ _ (rw (c .before .before .operation6 .given .1) at (s .pre .1)) in
+    let f = single-facts _ _ _ _ (rw (c .before .before .operation6 .given .1) at (s .pre .1)) in
     (f .0, f .2, s .pre .0, s .pre .2, s .pre .3)
 
 enum-told : tie.Need-enum-told

@@ -1,31 +1,37 @@
 -- `gate::fourier_row` meets its contract.
 -- Assumes nothing.
-use native.Mathlib.Nat.{mod-mod}
 use native.Mathlib.Omega.{arith}
+use lib.ListN.{length-set}
 use borrow.Author.Needs.{needs}
-use Rattle.modular.proofs.Residue.{rest-less}
-use Rattle.row.proofs.Laws.{powers-of}
-use Rattle.operation.specs.Gate.{gatePhase, gateRow}
+use Rattle.operation.specs.Gate.{gatePowers, gatePhase, gateRow}
 use Rattle.gate.proofs.fourier_row.Statement.{statement}
 use Rattle.gate.proofs.fourier_row.Tie as tie
 
-product-requires : tie.Need-product-requires
-product-requires c κs =
-    let s = c .before .before .before .before .before in
-    let v = s .pre .1 in
-    (s .pre .2, omega (arith, v .below (s .args .q) (omega arith)), v .below _ (omega arith))
+fourier-phase-requires : tie.Need-fourier-phase-requires
+fourier-phase-requires c κs =
+    let p = c .before .before .before .before .before .pre in
+    let v = p .1 in
+    (v .below _ (omega arith), v .below _ (omega arith), v .below _ (omega arith), p .2)
 
-difference-requires : tie.Need-difference-requires
-difference-requires c κs =
-    let s = c .before .before .before .before .before .before in
-    (s .pre .2, s .pre .1 .below _ (omega arith), rest-less _ (omega (arith, s .pre .2 .low)) (c .product .ensures))
+fourier-x-requires : tie.Need-fourier-x-requires
+fourier-x-requires c κs =
+    let v = c .before .before .before .before .before .before .pre .1 in
+    (v .below _ (omega arith), v .below _ (omega arith))
 
-fourier-powers-requires : tie.Need-fourier-powers-requires
-fourier-powers-requires c κs = let p = c .before .before .before .before .before .before .before .before .pre in (p .0, powers-of (p .1))
+fourier-z-requires : tie.Need-fourier-z-requires
+fourier-z-requires c κs =
+    let v = c .before .before .before .before .before .before .before .pre .1 in
+    (v .below _ (omega arith), v .below _ (omega arith))
+
+slice-write-v-2 : tie.Need-slice-write-v-2
+slice-write-v-2 c = simp length-set (omega arith)
+
+slice-write-v-3 : tie.Need-slice-write-v-3
+slice-write-v-3 c = simp length-set (omega arith)
 
 returns : tie.Need-returns
-unfolding gateRow gatePhase
-returns c = rw (c .before .before .fourier-powers .ensures, c .before .before .before .before .difference .ensures, c .before .before .before .before .before .product .ensures, mod-mod)
+unfolding gateRow gatePhase gatePowers
+returns c = rw (c .fourier-z .ensures, c .before .fourier-x .ensures, c .before .before .fourier-phase .ensures)
 
 pub fourier-row-spec : {M : Type 1} → statement M
 fourier-row-spec =
@@ -36,9 +42,12 @@ fourier-row-spec =
     (λ c. search needs)
     (λ c. search needs)
     (λ c. search needs)
-    product-requires
-    difference-requires
-    fourier-powers-requires
+    fourier-phase-requires
+    fourier-x-requires
     (λ c. search needs)
+    fourier-z-requires
+    (λ c. search needs)
+    slice-write-v-2
+    slice-write-v-3
     (λ c. search needs)
     returns)

@@ -13,11 +13,11 @@ use Rattle.gate.proofs.gate_all.Statement.{statement}
 use Rattle.gate.proofs.gate_all.Tie as tie
 
 abbrev Inv-loop : tie.InvT-loop
-Inv-loop t₀ code x y u f tables d n rows i₀ t i =
-    (i ≤ rows) × (length t ≡ length t₀) × (t ≡ eachRow (every (gateRow d n (numbered code x y u))) (2 * n + 1) t₀ i)
+Inv-loop t₀ number x y k f tables d n rows i₀ t i =
+    (i ≤ rows) × (length t ≡ length t₀) × (t ≡ eachRow (every (gateRow d n (numbered number x y k))) (2 * n + 1) t₀ i)
 
 abbrev μ-loop : tie.MeasureT-loop
-μ-loop t₀ code x y u f tables d n rows i₀ t i = rows - i
+μ-loop t₀ number x y k f tables d n rows i₀ t i = rows - i
 
 loop-holds : tie.Need-loop-holds Inv-loop μ-loop
 unfolding eachRow
@@ -28,7 +28,7 @@ gate-at-requires c κs =
     let s = c .before .before .before .before .before in
     let a = s .args in
     let l = c .before .before .loop in
-    let k = gate-keeps (a .d) (a .n) (numbered (a .code) (a .x) (a .y) (a .u)) in (
+    let k = gate-keeps (a .d) (a .n) (numbered (a .number) (a .x) (a .y) (a .k)) in (
       turn-room _ _ _ k _ (s .pre .3) (l .i) (omega arith) _ (l .inv .2),
       s .pre .1,
       s .pre .2,

@@ -1,62 +1,62 @@
 -- `gate::gate_rows` meets its contract.
 -- Assumes nothing.
 use mathlib.Core.Path.{sym}
+use native.Mathlib.Omega.{arith}
 use borrow.Author.Needs.{needs}
-use Rattle.modular.proofs.Listed.{inverse-zero}
 use Rattle.gate.proofs.Rows.{measure-none}
 use Rattle.gate.proofs.gate_rows.Statement.{statement}
 use Rattle.gate.proofs.gate_rows.Tie as tie
 
+fourier-times-requires : tie.Need-fourier-times-requires
+fourier-times-requires c κs =
+    let p = c .before .before .before .before .before .before .pre in
+    (p .0, rw (c .before .before .operation .given .1) at (p .1), p .3, p .2)
+
+gate-times-requires : tie.Need-gate-times-requires
+gate-times-requires c κs =
+    let p = c .before .before .before .before .before .before .pre in
+    (p .0, omega arith, omega arith, rw (c .before .before .operation2 .given .1) at (p .1), p .3, p .2)
+
+gate-times-requires-2 : tie.Need-gate-times-requires-2
+gate-times-requires-2 c κs =
+    let p = c .before .before .before .before .before .before .pre in
+    (p .0, omega arith, omega arith, rw (c .before .before .operation3 .given .1) at (p .1), p .3, p .2)
+
+gate-times-requires-3 : tie.Need-gate-times-requires-3
+gate-times-requires-3 c κs =
+    let p = c .before .before .before .before .before .before .pre in
+    (p .0, omega arith, omega arith, rw (c .before .before .operation4 .given .1) at (p .1), p .3, p .2)
+
 gate-all-requires : tie.Need-gate-all-requires
 gate-all-requires c κs =
-    let s = c .before .before .before .before .before .before in
-    (s .pre .0, rw (c .before .before .operation .given .1) at (s .pre .1), sym (inverse-zero _ (s .pre .2 .low)), s .pre .3, s .pre .2)
+    let p = c .before .before .before .before .before .before .pre in
+    (p .0, rw (c .before .before .operation5 .given .1) at (p .1), λ e. absurd (omega arith), p .3, p .2)
 
 gate-all-requires-2 : tie.Need-gate-all-requires-2
 gate-all-requires-2 c κs =
-    let s = c .before .before .before .before .before .before in
-    (s .pre .0, rw (c .before .before .operation2 .given .1) at (s .pre .1), sym (inverse-zero _ (s .pre .2 .low)), s .pre .3, s .pre .2)
-
-gate-all-requires-3 : tie.Need-gate-all-requires-3
-gate-all-requires-3 c κs =
-    let s = c .before .before .before .before .before .before in
-    (s .pre .0, rw (c .before .before .operation3 .given .1) at (s .pre .1), sym (inverse-zero _ (s .pre .2 .low)), s .pre .3, s .pre .2)
-
-gate-all-requires-4 : tie.Need-gate-all-requires-4
-gate-all-requires-4 c κs =
-    let s = c .before .before .before .before .before .before in
-    (s .pre .0, rw (c .before .before .operation4 .given .1) at (s .pre .1), sym (inverse-zero _ (s .pre .2 .low)), s .pre .3, s .pre .2)
-
-gate-all-requires-5 : tie.Need-gate-all-requires-5
-gate-all-requires-5 c κs =
-    let s = c .before .before .before .before .before .before in
-    (s .pre .0, rw (c .before .before .operation5 .given .1) at (s .pre .1), sym (inverse-zero _ (s .pre .2 .low)), s .pre .3, s .pre .2)
-
-gate-all-requires-6 : tie.Need-gate-all-requires-6
-gate-all-requires-6 c κs =
-    let s = c .before .before .before .before .before .before .before in
-    (s .pre .0, rw (c .before .before .before .operation6 .given .1) at (s .pre .1), c .before .inverse .ensures, s .pre .3, s .pre .2)
+    let p = c .before .before .before .before .before .before .before .pre in
+    (p .0, rw (c .before .before .before .operation6 .given .1) at (p .1), λ _. c .before .inverse .ensures, p .3, p .2)
 
 enum-told : tie.Need-enum-told
 enum-told c = search needs
 
 returns : tie.Need-returns
-returns c = rw (c .before .before .before .before .before .operation .given .1) (c .before .before .gate-all .ensures)
+returns c = rw (c .before .before .before .before .before .operation .given .1) (c .before .before .fourier-times .ensures)
 
 returns-2 : tie.Need-returns-2
-returns-2 c = rw (c .before .before .before .before .before .operation2 .given .1) (c .before .before .gate-all2 .ensures)
+returns-2 c = rw (c .before .before .before .before .before .operation2 .given .1) (c .before .before .gate-times .ensures)
 
 returns-3 : tie.Need-returns-3
-returns-3 c = rw (c .before .before .before .before .before .operation3 .given .1) (c .before .before .gate-all3 .ensures)
+returns-3 c = rw (c .before .before .before .before .before .operation3 .given .1) (c .before .before .gate-times2 .ensures)
 
 returns-4 : tie.Need-returns-4
-returns-4 c = rw (c .before .before .before .before .before .operation4 .given .1) (c .before .before .gate-all4 .ensures)
+returns-4 c = rw (c .before .before .before .before .before .operation4 .given .1) (c .before .before .gate-times3 .ensures)
 
 returns-5 : tie.Need-returns-5
-returns-5 c = rw (c .before .before .before .before .before .operation5 .given .1) (c .before .before .gate-all5 .ensures)
+returns-5 c = rw (c .before .before .before .before .before .operation5 .given .1) (c .before .before .gate-all .ensures)
 
 returns-6 : tie.Need-returns-6
-returns-6 c = rw (c .before .before .before .before .before .before .operation6 .given .1) (c .before .before .gate-all6 .ensures)
+returns-6 c = rw (c .before .before .before .before .before .before .operation6 .given .1) (c .before .before .gate-all2 .ensures)
 
 returns-7 : tie.Need-returns-7
 returns-7 c =
@@ -69,18 +69,18 @@ gate-rows-spec =
     tie.close
     (tie.spec
     (λ c. search needs)
+    fourier-times-requires
+    (λ c. search needs)
+    gate-times-requires
+    (λ c. search needs)
+    gate-times-requires-2
+    (λ c. search needs)
+    gate-times-requires-3
+    (λ c. search needs)
     gate-all-requires
     (λ c. search needs)
-    gate-all-requires-2
-    (λ c. search needs)
-    gate-all-requires-3
-    (λ c. search needs)
-    gate-all-requires-4
-    (λ c. search needs)
-    gate-all-requires-5
-    (λ c. search needs)
     (λ c κs. let t = c .before .before .before .before .before .pre .2 in (t .low, t .high))
-    gate-all-requires-6
+    gate-all-requires-2
     enum-told
     (λ c. search needs)
     returns

@@ -39,7 +39,7 @@ add-sum c = omega (arith, bound (c .before))
 
 loop-again : tie.Need-loop-again Inv-loop μ-loop
 unfolding dot
-loop-again c = (omega arith, rw (add-one (c .before .before .before .before .loop .k)) (cc), omega (arith, bound (c .before)))
+loop-again c = (omega arith, rw (add-one (c .before .before .before .before .loop .k), ← c .before .before .before .before .loop .inv .1, c .before .wide .ensures), omega (arith, bound (c .before)))
 
 returns : tie.Need-returns Inv-loop μ-loop
 returns c = (c .before .loop .inv .1 ∙ ap (dot _ _ _) (le-antisymm (c .before .loop .inv .0) (c .loop-test .left)), omega arith)

@@ -4,7 +4,7 @@
 //! and of the gates only the phase gate moves them. This leans on the tableau's validity, which each
 //! run has tested.
 
-use super::{Modulo, Phases, Pivot, gain_blocks, look_up, own_dot};
+use super::{Modulo, Multiple, Phases, Pivot, gain_blocks, look_up, own_dot};
 
 pub struct Even;
 
@@ -27,22 +27,33 @@ impl Phases for Even {
         }
     }
 
-    fn phase_gate(rows: &mut [u8], n: usize, q: usize, m: &Modulo) {
+    fn fourier_back(rows: &mut [u8], n: usize, q: usize, m: &Modulo) {
+        let (w, z) = (2 * n + 1, n + q);
+        assert!(q < w && z < w);
+        for row in rows.chunks_exact_mut(w) {
+            let (a, b) = (row[q], row[z]);
+            row[q] = b;
+            row[z] = m.rest(a.wrapping_neg());
+        }
+    }
+
+    fn phase_gate(rows: &mut [u8], n: usize, q: usize, multiple: impl Multiple, m: &Modulo) {
         let (w, z, last) = (2 * n + 1, n + q, 2 * n);
         assert!(q < w && z < w && last < w);
         let halves = m.times(m.d / 2);
         for row in rows.chunks_exact_mut(w) {
-            let (a, b, s) = (row[q], row[z], row[last]);
-            row[z] = m.rest(b.wrapping_add(a));
-            row[last] = m.rest(s.wrapping_add(look_up(halves, a)));
+            let (gained, b, s) = (multiple(row[q]), row[z], row[last]);
+            row[z] = m.rest(b.wrapping_add(gained));
+            row[last] = m.rest(s.wrapping_add(look_up(halves, gained)));
         }
     }
 
-    fn cz(rows: &mut [u8], n: usize, (c, t): (usize, usize), m: &Modulo) {
+    fn cz(rows: &mut [u8], n: usize, (c, t): (usize, usize), multiple: impl Multiple, m: &Modulo) {
         let (w, zc, zt) = (2 * n + 1, n + c, n + t);
         assert!(c < w && t < w && zc < w && zt < w);
         for row in rows.chunks_exact_mut(w) {
-            let (b, z) = (row[zc].wrapping_add(row[t]), row[zt].wrapping_add(row[c]));
+            let b = row[zc].wrapping_add(multiple(row[t]));
+            let z = row[zt].wrapping_add(multiple(row[c]));
             row[zc] = m.rest(b);
             row[zt] = m.rest(z);
         }

@@ -7,7 +7,9 @@
 //! - In a certain measurement no rows are multiplied: the phase of the product is a sum over the
 //!   stabilizers.
 
-use super::{Modulo, POWERS, Phases, Pivot, changing, dot, gain_blocks, look_up, own_dot};
+use super::{
+    Modulo, Multiple, POWERS, Phases, Pivot, changing, dot, gain_blocks, look_up, own_dot,
+};
 
 pub struct Specified;
 
@@ -27,24 +29,36 @@ impl Phases for Specified {
         }
     }
 
-    fn phase_gate(rows: &mut [u8], n: usize, q: usize, m: &Modulo) {
+    fn fourier_back(rows: &mut [u8], n: usize, q: usize, m: &Modulo) {
         let (w, z, last) = (2 * n + 1, n + q, 2 * n);
         assert!(q < w && z < w && last < w);
         for row in rows.chunks_exact_mut(w) {
             let (a, b, r) = (row[q], row[z], row[last]);
-            row[z] = m.rest(b.wrapping_add(a));
-            row[last] = m.rest(r.wrapping_add(look_up(&m.triangles, a)));
+            row[q] = b;
+            row[z] = m.rest(a.wrapping_neg());
+            row[last] = m.rest(r.wrapping_sub(m.product(a, b)));
         }
     }
 
-    fn cz(rows: &mut [u8], n: usize, (c, t): (usize, usize), m: &Modulo) {
+    fn phase_gate(rows: &mut [u8], n: usize, q: usize, multiple: impl Multiple, m: &Modulo) {
+        let (w, z, last) = (2 * n + 1, n + q, 2 * n);
+        assert!(q < w && z < w && last < w);
+        for row in rows.chunks_exact_mut(w) {
+            let (a, b, r) = (row[q], row[z], row[last]);
+            row[z] = m.rest(b.wrapping_add(multiple(a)));
+            row[last] = m.rest(r.wrapping_add(multiple(look_up(&m.triangles, a))));
+        }
+    }
+
+    fn cz(rows: &mut [u8], n: usize, (c, t): (usize, usize), multiple: impl Multiple, m: &Modulo) {
         let (w, zc, zt, last) = (2 * n + 1, n + c, n + t, 2 * n);
         assert!(c < w && t < w && zc < w && zt < w && last < w);
         for row in rows.chunks_exact_mut(w) {
             let (a, x, b, z, r) = (row[c], row[t], row[zc], row[zt], row[last]);
-            row[zc] = m.rest(b.wrapping_add(x));
-            row[zt] = m.rest(z.wrapping_add(a));
-            row[last] = m.rest(r.wrapping_add(m.product(a, x)));
+            let gained = multiple(x);
+            row[zc] = m.rest(b.wrapping_add(gained));
+            row[zt] = m.rest(z.wrapping_add(multiple(a)));
+            row[last] = m.rest(r.wrapping_add(m.product(a, gained)));
         }
     }
 

@@ -1,0 +1,13 @@
+-- `entries::fits` meets its contract.
+-- Assumes nothing.
+use borrow.Author.Needs.{needs}
+use Rattle.entries.specs.Fits.{fits}
+use Rattle.entries.proofs.fits.Statement.{statement}
+use Rattle.entries.proofs.fits.Tie as tie
+
+returns : tie.Need-returns
+unfolding fits
+returns c = rw (c .before .second-fits .ensures, c .last-fits .ensures)
+
+pub fits-spec : {M : Type 1} → statement M
+fits-spec = tie.close (tie.spec (λ c κs. search needs) (λ c κs. search needs) returns)
