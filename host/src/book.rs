@@ -158,7 +158,7 @@ impl WeylError {
 /// let mut book = Book::new(3, 2);
 /// book.operation(Operation::Fourier { q: 0, times: 1 })
 ///     .operation(Operation::Sum { c: 0, t: 1, times: 1 })
-///     .strike(1, 1, 0)
+///     .error(1, 1, 0)
 ///     .measure(0, 2)
 ///     .measure(1, 0);
 /// let bytes = book.to_bytes();
@@ -208,15 +208,14 @@ impl Book {
         self
     }
 
-    /// Adds an error X^p Z^s that strikes here: after the operations added so far and before the
-    /// next.
-    pub fn strike(&mut self, qudit: u8, p: u8, s: u8) -> &mut Book {
+    /// Adds an error X^p Z^s at this place: after the operations added so far and before the next.
+    pub fn error(&mut self, qudit: u8, p: u8, s: u8) -> &mut Book {
         let place = narrow(self.operations.len());
-        self.error(WeylError { place, qudit, p, s })
+        self.error_at(WeylError { place, qudit, p, s })
     }
 
     /// Adds an error with a place of its own. The reader wants places that never fall.
-    pub fn error(&mut self, error: WeylError) -> &mut Book {
+    pub fn error_at(&mut self, error: WeylError) -> &mut Book {
         self.errors.push(error);
         self
     }
@@ -263,7 +262,7 @@ impl Book {
     /// use cagvost::book::{Book, Operation};
     ///
     /// let mut book = Book::new(3, 2);
-    /// book.operation(Operation::Fourier { q: 1, times: 1 }).strike(1, 2, 0).measure(1, 2);
+    /// book.operation(Operation::Fourier { q: 1, times: 1 }).error(1, 2, 0).measure(1, 2);
     /// let [operations, errors, choices] = book.bodies();
     /// assert_eq!(operations, [0, 1, 0, 0, 6, 1, 0, 0]);
     /// assert_eq!(errors, [1, 0, 1, 2, 0]);

@@ -1,7 +1,7 @@
 //! The frame run: errors carried to the end as one frame.
 
 use crate::library::{self, Answer, FrameAnswer};
-use crate::{Refusal, told};
+use crate::{Refusal, counted};
 
 /// Whether the errors changed the final state.
 ///
@@ -16,9 +16,9 @@ use crate::{Refusal, told};
 /// use cagvost::Verdict;
 /// use cagvost::book::Book;
 ///
-/// // One qutrit at level 0, struck by X^p Z^s.
-/// let struck = |p, s| {
-///     let book = Book::new(3, 1).strike(0, p, s).to_bytes();
+/// // One qutrit at level 0 with an error X^p Z^s.
+/// let noisy = |p, s| {
+///     let book = Book::new(3, 1).error(0, p, s).to_bytes();
 ///     let mut tableau = [0; cagvost::tableau_len(1)];
 ///     let mut shifts = [0; cagvost::shifts_len(1)];
 ///     let mut frame = [0; cagvost::frame_len(1)];
@@ -26,8 +26,8 @@ use crate::{Refusal, told};
 ///     let run = cagvost::frame_run(&book, &mut tableau, &mut [], &mut shifts, &mut frame)?;
 ///     Ok::<_, cagvost::Refusal>((run.verdict, shifts))
 /// };
-/// assert_eq!(struck(0, 1)?, (Verdict::Clean, [1, 0])); // Z shifts the destabilizer
-/// assert_eq!(struck(1, 0)?, (Verdict::Shifted, [0, 2])); // X shifts the stabilizer
+/// assert_eq!(noisy(0, 1)?, (Verdict::Clean, [1, 0])); // Z shifts the destabilizer
+/// assert_eq!(noisy(1, 0)?, (Verdict::Shifted, [0, 2])); // X shifts the stabilizer
 /// # Ok::<(), cagvost::Refusal>(())
 /// ```
 #[derive(Clone, Copy, Debug, PartialEq, Eq, Hash)]
@@ -49,7 +49,7 @@ impl Verdict {
     }
 }
 
-/// What a frame run tells beside the buffers that it fills.
+/// What a frame run returns beside the buffers that it fills.
 #[derive(Clone, Copy, Debug, PartialEq, Eq, Hash)]
 pub struct FrameRun {
     /// The number of measurements.
@@ -85,7 +85,7 @@ pub const fn frame_len(n: usize) -> usize {
 /// let mut book = Book::new(3, 2);
 /// book.operation(Operation::Fourier { q: 0, times: 1 })
 ///     .operation(Operation::Sum { c: 0, t: 1, times: 1 })
-///     .strike(1, 1, 0)
+///     .error(1, 1, 0)
 ///     .measure(0, 2)
 ///     .measure(1, 0);
 /// let mut tableau = [0; cagvost::tableau_len(2)];
@@ -123,7 +123,7 @@ pub fn frame_run(
         place,
         verdict,
     } = library::frame_run(book, tableau, results, shifts, frame);
-    let measurements = told(Answer { number, place })?;
+    let measurements = counted(Answer { number, place })?;
     // Another verdict is proved not to come, as with an unlisted number.
     let verdict = Verdict::listed(verdict).unwrap_or_else(|| {
         panic!("the linked library is of another version: its verdict is {verdict}")

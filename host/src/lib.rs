@@ -58,7 +58,7 @@
 //!
 //! // Two qudits of dimension 31: an X error takes the first to level 1, and SUM adds this to the
 //! // second, thirty times.
-//! let start = Book::new(31, 2).strike(0, 1, 0).clone();
+//! let start = Book::new(31, 2).error(0, 1, 0).clone();
 //! let (c, t) = (0, 1);
 //! let mut power = start.clone();
 //! power.operation(Operation::Sum { c, t, times: 30 });
@@ -151,9 +151,9 @@
 //!
 //! # Building
 //!
-//! The build script has `rt staticlib cagvost` prove the crates and build the library. To link one
-//! that was built before, let the environment variable `CAGVOST_LIB` name the folder that has
-//! `libcagvost.a`.
+//! The build script has `rt staticlib cagvost` prove the crates and build the library, once no other
+//! build of the same clone is under way. To link one that was built before, let the environment
+//! variable `CAGVOST_LIB` name the folder that has `libcagvost.a`; that it has none is an error.
 
 #![deny(missing_docs)]
 #![deny(unsafe_code)]
@@ -189,7 +189,7 @@ pub const fn results_len(measurements: usize) -> usize {
 ///
 /// [`Refusal::Dimension`], [`Refusal::QuditCount`], [`Refusal::ShortBuffer`], tested in this order.
 pub fn layer(tableau: &mut [u8], d: usize, n: usize) -> Result<(), Refusal> {
-    told(library::layer(tableau, d, n)).map(drop)
+    counted(library::layer(tableau, d, n)).map(drop)
 }
 
 /// Tests whether the buffer holds a valid tableau of `n` qudits of dimension `d`: every byte is
@@ -200,7 +200,7 @@ pub fn layer(tableau: &mut [u8], d: usize, n: usize) -> Result<(), Refusal> {
 /// [`Refusal::Dimension`], [`Refusal::QuditCount`], [`Refusal::ShortBuffer`],
 /// [`Refusal::InvalidTableau`], tested in this order.
 pub fn test_tableau(tableau: &[u8], d: usize, n: usize) -> Result<(), Refusal> {
-    told(library::test(tableau, d, n)).map(drop)
+    counted(library::test(tableau, d, n)).map(drop)
 }
 
 /// Runs a book from the lent tableau, applying each error to the rows where it strikes.
@@ -213,11 +213,11 @@ pub fn test_tableau(tableau: &[u8], d: usize, n: usize) -> Result<(), Refusal> {
 /// What is wrong with the book comes first ([`Refusal::BookHeader`] to [`Refusal::Choice`], in the
 /// order of their numbers), then [`Refusal::ShortBuffer`], then [`Refusal::InvalidTableau`].
 pub fn direct_run(book: &[u8], tableau: &mut [u8], results: &mut [u8]) -> Result<usize, Refusal> {
-    told(library::direct_run(book, tableau, results))
+    counted(library::direct_run(book, tableau, results))
 }
 
 /// The count of a success, or the refusal.
-fn told(answer: Answer) -> Result<usize, Refusal> {
+fn counted(answer: Answer) -> Result<usize, Refusal> {
     match answer.number {
         0 => Ok(answer.place),
         number => Err(Refusal::listed(number, answer.place)),

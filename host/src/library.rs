@@ -7,8 +7,8 @@
 //!   makes them leave the slices, and they end;
 //! - they keep no pointer and no state, so calls from several threads do not meet.
 //!
-//! The declarations repeat the library's source (`crates/cagvost/src/lib.rt`), and nothing checks
-//! them against it but the tests.
+//! The declarations repeat the library's source (`crates/cagvost/src/lib.rt`), and
+//! tests/documents/exports.rs holds them to it.
 
 /// What an exported function returns: 0 and a count, or a refusal's number and its place.
 #[repr(C)]
@@ -222,7 +222,7 @@ mod tests {
             ))
         };
         assert_eq!(run(&book, &mut [0; 2]), (0, 1, 0));
-        book.strike(0, 2, 0);
+        book.error(0, 2, 0);
         assert_eq!(run(&book, &mut [0; 2]), (0, 1, 1));
         assert_eq!(run(&book, &mut []), (8, 0, 0));
         book.choice(0);

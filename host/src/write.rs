@@ -1,7 +1,7 @@
 //! The writer: a book out of its three bodies.
 
 use crate::library;
-use crate::{Refusal, told};
+use crate::{Refusal, counted};
 
 /// The bytes that the book of these three bodies needs: 22 and the bodies.
 pub const fn book_len(operations: &[u8], errors: &[u8], choices: &[u8]) -> usize {
@@ -62,5 +62,5 @@ pub fn write_book(
     choices: &[u8],
     out: &mut [u8],
 ) -> Result<usize, Refusal> {
-    told(library::write(out, operations, errors, choices, d, n))
+    counted(library::write(out, operations, errors, choices, d, n))
 }

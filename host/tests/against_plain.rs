@@ -45,7 +45,7 @@ fn compare(rng: &mut Rng, shape: Shape, seen: &mut Seen) {
     let tableau = with_tail(rng, tableau);
     let results = rng.bytes(2 * book.measurements() + 3);
     let run = run_both(&book.to_bytes(), &tableau, &results);
-    assert_eq!(run.told, (0, book.measurements()));
+    assert_eq!(run.returned, (0, book.measurements()));
     seen.count(&run, book.measurements());
 }
 
@@ -182,7 +182,7 @@ fn measure_levels(rng: &mut Rng, d: u8, n: u8) {
     for _ in 0..4 * count {
         let gate = draw_level_gate(rng, d, &mut levels);
         let (q, p, s) = (rng.byte_below(n), rng.byte_below(d), rng.byte_below(d));
-        book.operation(gate).strike(q, p, s);
+        book.operation(gate).error(q, p, s);
         let level = &mut levels[usize::from(q)];
         *level = ((u16::from(*level) + u16::from(p)) % u16::from(d)) as u8;
     }
@@ -281,7 +281,7 @@ fn the_lowest_pivot_by_hand() {
 
 /// A frame run against a direct run with raised choices, and its verdict against the stabilizer
 /// sets that it and the run without errors leave.
-fn carried_and_struck(rng: &mut Rng, d: u8, n: u8, seen: &mut Verdicts) {
+fn framed_and_direct(rng: &mut Rng, d: u8, n: u8, seen: &mut Verdicts) {
     let shape = Shape {
         d,
         n,
@@ -293,29 +293,29 @@ fn carried_and_struck(rng: &mut Rng, d: u8, n: u8, seen: &mut Verdicts) {
     let tableau = draw_tableau(rng, d, n);
     let room = vec![UNWRITTEN; 2 * book.measurements()];
     let run = |book: &Book| run_both(&book.to_bytes(), &tableau, &room);
-    let struck = run(&with_raised_choices(&book));
+    let direct = run(&with_raised_choices(&book));
     let clean = run(&without_errors(&book));
-    let (mut carried, mut results) = (tableau.clone(), room.clone());
+    let (mut framed, mut results) = (tableau.clone(), room.clone());
     let mut shifts = vec![UNWRITTEN; 2 * usize::from(n)];
     let mut frame = shifts.clone();
     let first = book.to_bytes();
-    let told = plain::frame_run(&first, &mut carried, &mut results, &mut shifts, &mut frame);
-    assert_eq!((told.0, told.1), struck.told);
-    assert_eq!(results, struck.results);
-    assert!(carried == struck.tableau);
-    let same = plain::same_set(d.into(), n.into(), &carried, &clean.tableau);
-    assert_eq!(told.2, usize::from(!same), "verdict of {first:02x?}");
-    seen.count(told.2 == 0, &shifts);
+    let returned = plain::frame_run(&first, &mut framed, &mut results, &mut shifts, &mut frame);
+    assert_eq!((returned.0, returned.1), direct.returned);
+    assert_eq!(results, direct.results);
+    assert!(framed == direct.tableau);
+    let same = plain::same_set(d.into(), n.into(), &framed, &clean.tableau);
+    assert_eq!(returned.2, usize::from(!same), "verdict of {first:02x?}");
+    seen.count(returned.2 == 0, &shifts);
 }
 
 #[test]
-fn errors_carried_by_the_reference_are_errors_struck() {
+fn errors_carried_by_the_reference_are_errors_applied() {
     let mut rng = Rng(3);
     let mut seen = Verdicts::default();
     for d in DIMENSIONS {
         for _ in 0..300 {
             let n = 1 + rng.byte_below(6);
-            carried_and_struck(&mut rng, d, n, &mut seen);
+            framed_and_direct(&mut rng, d, n, &mut seen);
         }
     }
     seen.are_enough(50);

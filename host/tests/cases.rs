@@ -10,8 +10,8 @@ use common::{PAPER_BOOK, Rng, UNWRITTEN, draw_tableau, paper_book, plain, zero_t
 fn run(book: &Book, tableau: &[u8]) -> (Vec<u8>, Vec<u8>) {
     let mut tableau = tableau.to_vec();
     let mut results = vec![UNWRITTEN; cagvost::results_len(book.measurements())];
-    let told = cagvost::direct_run(&book.to_bytes(), &mut tableau, &mut results);
-    assert_eq!(told, Ok(book.measurements()));
+    let returned = cagvost::direct_run(&book.to_bytes(), &mut tableau, &mut results);
+    assert_eq!(returned, Ok(book.measurements()));
     (tableau, results)
 }
 
@@ -58,7 +58,7 @@ fn starred_4_multiplier() {
 
 #[test]
 fn starred_7_error() {
-    let (left, _) = run(Book::new(3, 1).strike(0, 1, 2), &[1, 1, 0, 0, 1, 0]);
+    let (left, _) = run(Book::new(3, 1).error(0, 1, 2), &[1, 1, 0, 0, 1, 0]);
     assert_eq!(left[..3], [1, 1, 1]);
 }
 
@@ -135,10 +135,10 @@ fn listed_dimensions_pass_and_others_are_refused_by_2() {
 fn every_dimension_byte_of_a_book() {
     for d in 0..=255 {
         let mut tableau = zero_tableau(1);
-        let told = cagvost::direct_run(&Book::new(d, 1).to_bytes(), &mut tableau, &mut []);
+        let returned = cagvost::direct_run(&Book::new(d, 1).to_bytes(), &mut tableau, &mut []);
         let listed = DIMENSIONS.contains(&d);
         assert_eq!(
-            told,
+            returned,
             if listed {
                 Ok(0)
             } else {
@@ -177,10 +177,10 @@ fn every_qudit_count_byte_of_a_book() {
         let mut tableau = vec![0; cagvost::tableau_len(255)];
         tableau[..cagvost::tableau_len(n.into())].copy_from_slice(&zero_tableau(n));
         let before = tableau.clone();
-        let told = cagvost::direct_run(&Book::new(3, n).to_bytes(), &mut tableau, &mut []);
+        let returned = cagvost::direct_run(&Book::new(3, n).to_bytes(), &mut tableau, &mut []);
         let sized = (1..=64).contains(&n);
         assert_eq!(
-            told,
+            returned,
             if sized {
                 Ok(0)
             } else {
@@ -242,14 +242,14 @@ fn starred_6_power_of_the_reference() {
 fn the_book_of_45_bytes_as_frame_run_of_the_reference() {
     let (mut tableau, mut results) = (zero_tableau(2), [UNWRITTEN; 4]);
     let (mut shifts, mut frame) = ([UNWRITTEN; 4], [UNWRITTEN; 4]);
-    let told = plain::frame_run(
+    let returned = plain::frame_run(
         &PAPER_BOOK,
         &mut tableau,
         &mut results,
         &mut shifts,
         &mut frame,
     );
-    assert_eq!(told, (0, 2, 1));
+    assert_eq!(returned, (0, 2, 1));
     assert_eq!(results, [2, 1, 0, 0]);
     assert_eq!(shifts, [0, 0, 0, 2]);
     assert_eq!(frame, [0, 1, 0, 0]);

@@ -1,6 +1,6 @@
 //! Both runs against a state vector: rows fix the state, marks and outcomes are its own, a frame
-//! leads from the state without errors to the struck one, and the verdict says whether these are
-//! the same.
+//! leads from the state without errors to the one with errors, and the verdict says whether these
+//! are the same.
 
 mod common;
 
@@ -78,7 +78,7 @@ fn carry(book: &Book) -> Carried {
     }
 }
 
-/// Carries the book's errors as a frame, and strikes them on the state vector: the reported results
+/// Carries the book's errors as a frame, and applies them to the state vector: the reported results
 /// are possible there, the shifted rows fix it, and the frame makes it of the state without errors.
 fn follow_frame(book: &Book, seen: &mut Seen) -> Carried {
     let carried = carry(book);
@@ -99,7 +99,7 @@ fn follow_frame(book: &Book, seen: &mut Seen) -> Carried {
     carried
 }
 
-/// Clean exactly if the struck state is the one without errors. States whose stabilizers differ in
+/// Clean exactly if the state with errors is the one without. States whose stabilizers differ in
 /// phases alone are the same or have the overlap 0.
 fn check_verdict(verdict: Verdict, overlap: f64, book: &Book) {
     let expected = match verdict {
@@ -171,7 +171,7 @@ fn replay(book: &Book, results: &[u8], seen: &mut Seen) -> State {
     let mut measured = results.chunks(2);
     for k in 0..=book.operations().len() {
         for &error in book.errors().iter().filter(|e| usize::from(e.place) == k) {
-            state.strike(error);
+            state.apply_error(error);
         }
         match book.operations().get(k) {
             None => {}
@@ -281,7 +281,7 @@ fn follow_every_circuit(d: u8, n: u8, alphabet: &[Operation], length: u32) {
     let mut seen = Seen::default();
     for mut book in every_circuit(d, n, alphabet, length) {
         let place = rng.below(book.operations().len() + 1);
-        book.error(draw_error(&mut rng, d, n, place));
+        book.error_at(draw_error(&mut rng, d, n, place));
         follow(&book, &mut seen);
         follow_frame(&book, &mut seen);
     }
@@ -293,9 +293,9 @@ fn follow_every_error(d: u8, n: u8, alphabet: &[Operation], length: u32) {
     let mut seen = Seen::default();
     for book in every_circuit(d, n, alphabet, length) {
         for error in every_error(d, n, length as usize) {
-            let mut struck = book.clone();
-            struck.error(error);
-            follow_frame(&struck, &mut seen);
+            let mut noisy = book.clone();
+            noisy.error_at(error);
+            follow_frame(&noisy, &mut seen);
         }
     }
     seen.verdicts.are_enough(2000);
@@ -358,7 +358,7 @@ fn every_error_at_every_place() {
             .measure(1, 1)
             .measure(0, 2)
             .measure(1, 0)
-            .error(error);
+            .error_at(error);
         follow(&book, &mut seen);
         follow_frame(&book, &mut seen);
     }
@@ -405,8 +405,8 @@ fn every_short_circuit_of_powers_on_two_qutrits() {
     follow_every_circuit(3, 2, &alphabet, 5);
 }
 
-/// Follows the book of every multiplier, which is on qudit 0. It is struck by every single error,
-/// and above d = 7, where state vectors are long, by one on qudit 0 before the multiplier.
+/// Follows the book of every multiplier, which is on qudit 0. It has each single error in turn,
+/// and above d = 7, where state vectors are long, one on qudit 0 before the multiplier.
 fn follow_every_multiplier(book: impl Fn(u8, u8) -> Book) {
     let mut rng = Rng(9);
     let mut seen = Seen::default();
@@ -422,10 +422,10 @@ fn follow_every_multiplier(book: impl Fn(u8, u8) -> Book) {
         };
         let errors = every_error(d, book.qudits(), book.operations().len());
         for error in errors.filter(|&error| d <= 7 || error == before) {
-            let mut struck = book.clone();
-            struck.error(error);
-            follow(&struck, &mut seen);
-            follow_frame(&struck, &mut seen);
+            let mut noisy = book.clone();
+            noisy.error_at(error);
+            follow(&noisy, &mut seen);
+            follow_frame(&noisy, &mut seen);
         }
     }
     seen.verdicts.are_enough(500);

@@ -14,8 +14,8 @@ use common::{with_raised_choices, without_errors};
 
 #[test]
 fn the_book_of_45_bytes() {
-    let (told, left) = carry_both(&PAPER_BOOK, &Buffers::zero(2, 2));
-    assert_eq!(told, (0, 2, 1));
+    let (returned, left) = carry_both(&PAPER_BOOK, &Buffers::zero(2, 2));
+    assert_eq!(returned, (0, 2, 1));
     assert_eq!(left.results, [2, 1, 0, 0]);
     assert_eq!(left.shifts, [0, 0, 0, 2]);
     assert_eq!(left.frame, [0, 1, 0, 0]);
@@ -35,8 +35,8 @@ fn no_operations_and_no_errors_keep_the_tableau() {
         for n in [1, 3, 64] {
             let tableau = draw_tableau(&mut rng, d, n);
             let before = Buffers::drawn(&mut rng, n, 0, tableau);
-            let (told, left) = carry_both(&Book::new(d, n).to_bytes(), &before);
-            assert_eq!(told, (0, 0, 0));
+            let (returned, left) = carry_both(&Book::new(d, n).to_bytes(), &before);
+            assert_eq!(returned, (0, 0, 0));
             assert!(left.tableau == before.tableau);
             assert!(left.shifts[..2 * usize::from(n)].iter().all(|&x| x == 0));
             assert!(left.frame[..2 * usize::from(n)].iter().all(|&x| x == 0));
@@ -47,9 +47,9 @@ fn no_operations_and_no_errors_keep_the_tableau() {
 /// A Z error on level 0 shifts a destabilizer alone: the state is the same.
 #[test]
 fn a_z_error_on_level_0_is_clean() {
-    let book = Book::new(3, 1).strike(0, 0, 1).to_bytes();
-    let (told, left) = carry_both(&book, &Buffers::zero(1, 0));
-    assert_eq!(told, (0, 0, 0));
+    let book = Book::new(3, 1).error(0, 0, 1).to_bytes();
+    let (returned, left) = carry_both(&book, &Buffers::zero(1, 0));
+    assert_eq!(returned, (0, 0, 0));
     assert_eq!(left.shifts, [1, 0]);
     assert_eq!(left.tableau, [1, 0, 1, 0, 1, 0]);
 }
@@ -57,9 +57,9 @@ fn a_z_error_on_level_0_is_clean() {
 /// An X error on level 0 shifts a stabilizer: the state is level 1.
 #[test]
 fn an_x_error_on_level_0_is_shifted() {
-    let book = Book::new(3, 1).strike(0, 1, 0).to_bytes();
-    let (told, left) = carry_both(&book, &Buffers::zero(1, 0));
-    assert_eq!(told, (0, 0, 1));
+    let book = Book::new(3, 1).error(0, 1, 0).to_bytes();
+    let (returned, left) = carry_both(&book, &Buffers::zero(1, 0));
+    assert_eq!(returned, (0, 0, 1));
     assert_eq!(left.shifts, [0, 2]);
     assert_eq!(left.tableau, [1, 0, 0, 0, 1, 2]);
 }
@@ -74,9 +74,9 @@ fn each_row_alone() {
     {
         for q in 0..3 {
             let carry = |p, s| {
-                let book = Book::new(d, 3).strike(q, p, s).to_bytes();
-                let (told, left) = carry_both(&book, &Buffers::zero(3, 0));
-                (told, left.shifts)
+                let book = Book::new(d, 3).error(q, p, s).to_bytes();
+                let (returned, left) = carry_both(&book, &Buffers::zero(3, 0));
+                (returned, left.shifts)
             };
             let alone = |row: u8, shift| {
                 let mut shifts = vec![0; 6];
@@ -93,9 +93,9 @@ fn each_row_alone() {
 #[test]
 fn errors_that_cancel_are_clean() {
     let mut book = Book::new(5, 1);
-    book.strike(0, 2, 0).measure(0, 4).strike(0, 3, 0);
-    let (told, left) = carry_both(&book.to_bytes(), &Buffers::zero(1, 1));
-    assert_eq!(told, (0, 1, 0));
+    book.error(0, 2, 0).measure(0, 4).error(0, 3, 0);
+    let (returned, left) = carry_both(&book.to_bytes(), &Buffers::zero(1, 1));
+    assert_eq!(returned, (0, 1, 0));
     assert_eq!(left.results, [2, 0]);
 }
 
@@ -106,7 +106,7 @@ fn errors_that_cancel_are_clean() {
 fn refusals_in_their_order() {
     let mut good = Book::new(3, 2);
     good.operation(Operation::Fourier { q: 0, times: 1 })
-        .strike(1, 1, 1)
+        .error(1, 1, 1)
         .measure(0, 1);
     let good = good.to_bytes();
     let whole = Buffers::zero(2, 1);
@@ -126,8 +126,8 @@ fn refusals_in_their_order() {
         }
         assert_eq!(carry_both(&good, &short).0, (8, 0, 0));
         for length in 0..good.len() {
-            let told = carry_both(&good[..length], &short).0;
-            assert_eq!(told, if length < 22 { (1, 0, 0) } else { (4, 3, 0) });
+            let returned = carry_both(&good[..length], &short).0;
+            assert_eq!(returned, if length < 22 { (1, 0, 0) } else { (4, 3, 0) });
         }
     }
     let mut invalid = whole.clone();
@@ -158,29 +158,29 @@ fn shape(rng: &mut Rng, d: u8, n: u8, most: usize) -> Shape {
     }
 }
 
-/// Carries the errors of a book and strikes them in the book with raised choices: demand 3. Then
+/// Carries the errors of a book and applies them in the book with raised choices: demand 3. Then
 /// leaves them out: the verdict is clean exactly if that run ends with the same stabilizer set.
-fn carry_and_strike(rng: &mut Rng, book: &Book, tableau: Vec<u8>, seen: &mut Verdicts) {
+fn framed_and_direct(rng: &mut Rng, book: &Book, tableau: Vec<u8>, seen: &mut Verdicts) {
     let (d, n, first) = (book.dimension(), book.qudits(), book.to_bytes());
     let before = Buffers::drawn(rng, n, book.measurements(), tableau);
     let run = |book: &Book| run_both(&book.to_bytes(), &before.tableau, &before.results);
-    let (told, carried) = carry_both(&first, &before);
-    let struck = run(&with_raised_choices(book));
-    assert_eq!((told.0, told.1), struck.told);
-    assert_eq!(told.0, 0);
-    assert!(carried.results == struck.results, "results of {first:02x?}");
-    assert!(carried.tableau == struck.tableau, "tableau of {first:02x?}");
+    let (returned, framed) = carry_both(&first, &before);
+    let direct = run(&with_raised_choices(book));
+    assert_eq!((returned.0, returned.1), direct.returned);
+    assert_eq!(returned.0, 0);
+    assert!(framed.results == direct.results, "results of {first:02x?}");
+    assert!(framed.tableau == direct.tableau, "tableau of {first:02x?}");
     let clean = run(&without_errors(book));
-    let same = plain::same_set(d.into(), n.into(), &carried.tableau, &clean.tableau);
-    assert_eq!(told.2, usize::from(!same), "verdict of {first:02x?}");
-    seen.count(told.2 == 0, &carried.shifts[..2 * usize::from(n)]);
+    let same = plain::same_set(d.into(), n.into(), &framed.tableau, &clean.tableau);
+    assert_eq!(returned.2, usize::from(!same), "verdict of {first:02x?}");
+    seen.count(returned.2 == 0, &framed.shifts[..2 * usize::from(n)]);
 }
 
 /// The same for a drawn book and tableau.
 fn carry_drawn(rng: &mut Rng, shape: Shape, seen: &mut Verdicts) {
     let book = draw_book(rng, shape);
     let tableau = draw_tableau(rng, shape.d, shape.n);
-    carry_and_strike(rng, &book, tableau, seen);
+    framed_and_direct(rng, &book, tableau, seen);
 }
 
 fn carry_many(books: usize, least: u8, most: u8, operations: usize) -> Verdicts {
@@ -241,8 +241,8 @@ fn every_error_at_every_place() {
                 .operation(cz(1, 0))
                 .operation(Operation::Multiplier { q: 0, u: 2 })
                 .measure(0, 2);
-            book.error(WeylError { place, qudit, p, s });
-            carry_and_strike(&mut rng, &book, zero_tableau(2), &mut seen);
+            book.error_at(WeylError { place, qudit, p, s });
+            framed_and_direct(&mut rng, &book, zero_tableau(2), &mut seen);
         }
     }
     seen.are_enough(50);
@@ -335,8 +335,10 @@ fn carry_kind(rng: &mut Rng, kind: Kind, d: u8, n: u8, seen: &mut Verdicts) {
     let mut results = vec![UNWRITTEN; 2 * book.measurements()];
     cagvost::direct_run(&book.to_bytes(), &mut last, &mut results).expect("an accepted book");
     let errors = draw_errors(rng, kind, &book, &plain::rows_of(n.into(), &last));
-    errors.into_iter().for_each(|error| _ = book.error(error));
-    carry_and_strike(rng, &book, tableau, seen);
+    errors
+        .into_iter()
+        .for_each(|error| _ = book.error_at(error));
+    framed_and_direct(rng, &book, tableau, seen);
 }
 
 /// Every number of qudits with each kind of errors, in every dimension by turns.

@@ -10,7 +10,7 @@ mod common;
 use cagvost::book::{Book, DIMENSIONS, MAX_QUDITS, Operation};
 use common::frames::{Buffers, carry_both};
 use common::plain::{self, Op, Row};
-use common::{Rng, UNWRITTEN, draw_struck, draw_tableau, every_factor, run_both, times};
+use common::{Rng, UNWRITTEN, draw_noisy, draw_tableau, every_factor, run_both, times};
 
 // ---- Multipliers
 
@@ -37,7 +37,7 @@ fn every_multiplier_on_rows() {
         let mut book = Book::new(d, n);
         book.operation(Operation::Multiplier { q, u });
         let run = run_both(&book.to_bytes(), &tableau, &[]);
-        assert_eq!(run.told, (0, 0));
+        assert_eq!(run.returned, (0, 0));
         let (width, z) = (2 * usize::from(n) + 1, usize::from(n + q));
         assert!(tableau.chunks(width).any(|row| row[z] != 0));
         for (before, after) in tableau.chunks(width).zip(run.tableau.chunks(width)) {
@@ -51,12 +51,12 @@ fn every_multiplier_on_rows() {
 fn every_multiplier_on_a_frame() {
     for_every_factor(2, |rng, d, u| {
         let (n, q) = draw_qudit(rng);
-        let mut book = draw_struck(rng, d, n);
+        let mut book = draw_noisy(rng, d, n);
         book.operation(Operation::Multiplier { q, u });
         let tableau = draw_tableau(rng, d, n);
         let before = Buffers::drawn(rng, n, 0, tableau);
-        let (told, left) = carry_both(&book.to_bytes(), &before);
-        assert_eq!((told.0, told.1), (0, 0));
+        let (returned, left) = carry_both(&book.to_bytes(), &before);
+        assert_eq!((returned.0, returned.1), (0, 0));
         let z = left.frame[usize::from(n + q)];
         let error = book.errors()[usize::from(q)];
         assert_eq!(times(d, u, z), error.s, "d {d} u {u}");
@@ -77,13 +77,13 @@ fn every_multiplier_is_undone_by_the_inverse() {
         };
         let tableau = draw_tableau(rng, d, n);
         let run = run_both(&and_back(Book::new(d, n)), &tableau, &[]);
-        assert_eq!(run.told, (0, 0));
+        assert_eq!(run.returned, (0, 0));
         assert_eq!(run.tableau, tableau, "d {d} u {u}");
-        let struck = draw_struck(rng, d, n);
+        let noisy = draw_noisy(rng, d, n);
         let before = Buffers::drawn(rng, n, 0, tableau);
-        let alone = carry_both(&struck.to_bytes(), &before);
+        let alone = carry_both(&noisy.to_bytes(), &before);
         assert_eq!((alone.0.0, alone.0.1), (0, 0));
-        assert_eq!(carry_both(&and_back(struck), &before), alone, "d {d} u {u}");
+        assert_eq!(carry_both(&and_back(noisy), &before), alone, "d {d} u {u}");
     });
 }
 
@@ -118,11 +118,11 @@ fn measure_free(rng: &mut Rng, d: u8, rows: &[Row], q: usize, choices: &[u8]) ->
         let run = run_both(&measured, &tableau, &[UNWRITTEN; 2]);
         assert_eq!(run.results, [m, 1]);
         check_collapsed(d, rows, &plain::rows_of(n, &run.tableau), (q, k, e));
-        let mut struck = draw_struck(rng, d, n as u8);
-        struck.measure(q as u8, m);
+        let mut noisy = draw_noisy(rng, d, n as u8);
+        noisy.measure(q as u8, m);
         let before = Buffers::drawn(rng, n as u8, 1, tableau.clone());
-        let (_, carried) = carry_both(&struck.to_bytes(), &before);
-        let reported = (m + struck.errors()[q].p) % d;
+        let (_, carried) = carry_both(&noisy.to_bytes(), &before);
+        let reported = (m + noisy.errors()[q].p) % d;
         assert_eq!(carried.results[..2], [reported, 1]);
     }
     e

@@ -10,10 +10,10 @@ use cagvost::Tray;
 use cagvost::book::{Book, DIMENSIONS, MAX_QUDITS, Operation, WeylError};
 use common::dense::State;
 use common::frames::{Buffers, carry_both};
-use common::plain::{self, Told};
+use common::plain::{self, Returned};
 use common::trays::{Lent, draw_errors, draw_tray, tray_both};
 use common::{BODIES, Rng, Shape, UNWRITTEN, run_both, slices, write_both};
-use common::{cz, draw_book, draw_gate, draw_struck, draw_tableau, most_times, sum, times_of};
+use common::{cz, draw_book, draw_gate, draw_noisy, draw_tableau, most_times, sum, times_of};
 use common::{with_tail, with_times};
 
 /// Each gate that has powers, applied once, on these qudits: in both orders if it has two.
@@ -60,11 +60,11 @@ fn last_bytes(d: u8, code: u8) -> Vec<u8> {
 /// A book of five drawn gates and a measurement, with errors, that has these entries in place of
 /// some of the gates. Each measurement among them gets its choice.
 fn book_with(rng: &mut Rng, d: u8, n: u8, entries: &[(usize, [u8; 4])]) -> Vec<u8> {
-    let mut book = draw_struck(rng, d, n);
+    let mut book = draw_noisy(rng, d, n);
     for _ in 0..5 {
         book.operation(draw_gate(rng, d, n));
     }
-    book.strike(0, 1, d - 1).measure(n - 1, rng.byte_below(d));
+    book.error(0, 1, d - 1).measure(n - 1, rng.byte_below(d));
     for _ in entries.iter().filter(|(_, entry)| entry[0] == 6) {
         book.choice(rng.byte_below(d));
     }
@@ -77,7 +77,7 @@ fn book_with(rng: &mut Rng, d: u8, n: u8, entries: &[(usize, [u8; 4])]) -> Vec<u
 
 /// What both runs, the tray run and the writer say to a book with a good table of contents, which
 /// must be the same: nothing, or the refusal. Only the book can be wrong.
-fn refused(rng: &mut Rng, book: &[u8]) -> Option<Told> {
+fn refused(rng: &mut Rng, book: &[u8]) -> Option<Returned> {
     let bodies = plain::read_contents(book).expect("a good table of contents");
     let bodies = bodies.map(<[u8]>::to_vec);
     let (d, n, measurements) = (book[1], book[2], bodies[2].len());
@@ -91,17 +91,20 @@ fn refused(rng: &mut Rng, book: &[u8]) -> Option<Told> {
         tableau: before.tableau.clone(),
         out: rng.bytes(cagvost::shots_len(tray.shots(), measurements)),
     };
-    let struck = run_both(book, &before.tableau, &before.results).told;
-    let carried = carry_both(book, &before).0;
+    let direct = run_both(book, &before.tableau, &before.results).returned;
+    let framed = carry_both(book, &before).0;
     let shots = tray_both(&lent).0;
     let written = write_both(&bodies, d.into(), n.into(), &vec![UNWRITTEN; book.len()]).0;
-    let told = [(carried.0, carried.1), (shots.0, shots.1), written];
-    if struck.0 == 0 {
-        assert!(told.iter().all(|told| told.0 == 0), "{book:02x?}: {told:?}");
+    let returned = [(framed.0, framed.1), (shots.0, shots.1), written];
+    if direct.0 == 0 {
+        assert!(
+            returned.iter().all(|r| r.0 == 0),
+            "{book:02x?}: {returned:?}"
+        );
         return None;
     }
-    assert_eq!(told, [struck; 3], "{book:02x?}");
-    Some(struck)
+    assert_eq!(returned, [direct; 3], "{book:02x?}");
+    Some(direct)
 }
 
 /// Every last byte after every code, in an entry that is not the first.
@@ -115,8 +118,8 @@ fn every_last_byte_after_every_code() {
         let book = book_with(&mut rng, d, n, &[(index, [code, 1, 0, last])]);
         let is_good = last_bytes(d, code).contains(&last);
         let expected = (!is_good).then_some((5, index));
-        let told = refused(&mut rng, &book);
-        assert_eq!(told, expected, "d {d} code {code} last byte {last}");
+        let returned = refused(&mut rng, &book);
+        assert_eq!(returned, expected, "d {d} code {code} last byte {last}");
     }
 }
 
@@ -186,7 +189,7 @@ fn after(d: u8, n: u8, operation: Operation, tableau: &[u8]) -> Vec<u8> {
     let mut book = Book::new(d, n);
     book.operation(operation);
     let run = run_both(&book.to_bytes(), tableau, &[]);
-    assert_eq!(run.told, (0, 0), "{operation:?}");
+    assert_eq!(run.returned, (0, 0), "{operation:?}");
     run.tableau
 }
 
@@ -249,24 +252,25 @@ fn measure_all(rng: &mut Rng, mut book: Book) -> Book {
 }
 
 /// The same after a Fourier gate on each, so that results show the Z powers of a frame.
-fn turn_and_measure_all(rng: &mut Rng, mut book: Book) -> Book {
+fn fourier_and_measure_all(rng: &mut Rng, mut book: Book) -> Book {
     for q in 0..book.qudits() {
         book.operation(Operation::Fourier { q, times: 1 });
     }
     measure_all(rng, book)
 }
 
-/// Every byte of a frame run in which each qudit is struck before the power and measured after it.
+/// Every byte of a frame run in which each qudit has an error before the power and is measured
+/// after it.
 #[test]
 fn every_power_on_a_frame() {
     for_every_power(2, &[1, 2, 3, 5], |rng, d, n, power| {
-        let mut book = draw_struck(rng, d, n);
+        let mut book = draw_noisy(rng, d, n);
         book.operation(power);
         let book = measure_all(rng, book);
         let tableau = draw_tableau(rng, d, n);
         let before = Buffers::drawn(rng, n, n.into(), tableau);
-        let told = carry_both(&book.to_bytes(), &before).0;
-        assert_eq!((told.0, told.1), (0, n.into()), "{power:?}");
+        let returned = carry_both(&book.to_bytes(), &before).0;
+        assert_eq!((returned.0, returned.1), (0, n.into()), "{power:?}");
     });
 }
 
@@ -274,14 +278,14 @@ fn every_power_on_a_frame() {
 #[test]
 fn every_power_in_a_tray() {
     for_every_power(3, &[1, 2, 3], |rng, d, n, power| {
-        for measure in [measure_all, turn_and_measure_all] {
+        for measure in [measure_all, fourier_and_measure_all] {
             let mut book = Book::new(d, n);
             book.operation(power);
             let book = measure(rng, book);
             let mut tray = draw_tray(rng, &book, 2, 3);
-            tray.shot(draw_struck(rng, d, n).errors());
-            let told = tray_both(&Lent::drawn(rng, &book, &tray)).0;
-            assert_eq!((told.0, told.1 + told.2), (0, 3), "{power:?}");
+            tray.shot(draw_noisy(rng, d, n).errors());
+            let returned = tray_both(&Lent::drawn(rng, &book, &tray)).0;
+            assert_eq!((returned.0, returned.1 + returned.2), (0, 3), "{power:?}");
         }
     });
 }
@@ -295,12 +299,12 @@ fn every_power_is_undone_by_the_rest() {
         let and_back = |mut book: Book| book.operation(power).operation(rest).to_bytes();
         let tableau = draw_tableau(rng, d, n);
         let run = run_both(&and_back(Book::new(d, n)), &tableau, &[]);
-        assert_eq!(run.told, (0, 0));
+        assert_eq!(run.returned, (0, 0));
         assert_eq!(run.tableau, tableau, "{power:?}");
-        let struck = draw_struck(rng, d, n);
+        let noisy = draw_noisy(rng, d, n);
         let before = Buffers::drawn(rng, n, 0, tableau);
-        let alone = carry_both(&struck.to_bytes(), &before);
-        assert_eq!(carry_both(&and_back(struck), &before), alone, "{power:?}");
+        let alone = carry_both(&noisy.to_bytes(), &before);
+        assert_eq!(carry_both(&and_back(noisy), &before), alone, "{power:?}");
     });
 }
 
@@ -318,11 +322,11 @@ fn shuffled(rng: &mut Rng, mut operations: Vec<Operation>) -> Vec<Operation> {
 /// between them; then these qudits are measured.
 fn draw_every_power(rng: &mut Rng, d: u8, n: u8) -> Book {
     let qudits = [0, n / 2, n - 1];
-    let mut book = draw_struck(rng, d, n);
+    let mut book = draw_noisy(rng, d, n);
     for power in shuffled(rng, every_power(d, gates_on(&qudits)).collect()) {
         book.operation(power);
         let [p, s] = [0, 0].map(|_| rng.byte_below(d));
-        book.strike(qudits[rng.below(3)], p, s);
+        book.error(qudits[rng.below(3)], p, s);
     }
     for q in qudits {
         book.measure(q, rng.byte_below(d));
@@ -340,7 +344,7 @@ fn every_power_among_many_qudits() {
         let before = Buffers::drawn(&mut rng, n, 3, tableau);
         let bytes = book.to_bytes();
         assert_eq!(
-            run_both(&bytes, &before.tableau, &before.results).told,
+            run_both(&bytes, &before.tableau, &before.results).returned,
             (0, 3)
         );
         assert_eq!(carry_both(&bytes, &before).0.0, 0);
@@ -378,7 +382,7 @@ fn levels(d: u8, n: u8) -> impl Iterator<Item = State> {
         for qudit in 0..n {
             let p = (code / usize::from(d).pow(qudit.into()) % usize::from(d)) as u8;
             let (place, s) = (0, 0);
-            state.strike(WeylError { place, qudit, p, s });
+            state.apply_error(WeylError { place, qudit, p, s });
         }
         state
     })
@@ -450,7 +454,7 @@ fn singly(book: &Book) -> Book {
         (0..times_of(operation)).for_each(|_| _ = single.operation(once));
     }
     for error in errors_singly(book, book.errors()) {
-        single.error(error);
+        single.error_at(error);
     }
     book.choices().iter().for_each(|&c| _ = single.choice(c));
     single
@@ -462,11 +466,11 @@ fn compare_with_singly(rng: &mut Rng, book: &Book) {
     let (d, n, single) = (book.dimension(), book.qudits(), singly(book));
     let tableau = draw_tableau(rng, d, n);
     let before = Buffers::drawn(rng, n, book.measurements(), tableau);
-    let struck = |book: &Book| run_both(&book.to_bytes(), &before.tableau, &before.results);
-    assert_eq!(struck(book).told.0, 0);
-    assert!(struck(book) == struck(&single), "{book:?}");
-    let carried = |book: &Book| carry_both(&book.to_bytes(), &before);
-    assert!(carried(book) == carried(&single), "{book:?}");
+    let direct = |book: &Book| run_both(&book.to_bytes(), &before.tableau, &before.results);
+    assert_eq!(direct(book).returned.0, 0);
+    assert!(direct(book) == direct(&single), "{book:?}");
+    let framed = |book: &Book| carry_both(&book.to_bytes(), &before);
+    assert!(framed(book) == framed(&single), "{book:?}");
     let (mut tray, mut tray_singly) = (Tray::new(), Tray::new());
     for count in [1, 0, 2, 5] {
         let errors = draw_errors(rng, book, count);
@@ -482,11 +486,11 @@ fn compare_with_singly(rng: &mut Rng, book: &Book) {
     assert!(tray_both(&lent) == tray_both(&lent_singly), "{book:?}");
 }
 
-/// Every power alone, each qudit struck before it and measured after it.
+/// Every power alone, each qudit with an error before it and measured after it.
 #[test]
 fn every_power_and_the_same_written_singly() {
     for_every_power(9, &[1, 2, 3], |rng, d, n, power| {
-        let mut book = draw_struck(rng, d, n);
+        let mut book = draw_noisy(rng, d, n);
         book.operation(power);
         let book = measure_all(rng, book);
         assert_eq!(
@@ -524,14 +528,14 @@ fn the_writer_and_every_power() {
         let mut book = Book::new(d, 2);
         let powers = shuffled(&mut rng, every_power(d, gates_on(&[0, 1])).collect());
         powers.iter().for_each(|&power| _ = book.operation(power));
-        let book = book.strike(1, d - 1, 1).measure(0, d - 1);
+        let book = book.error(1, d - 1, 1).measure(0, d - 1);
         let (bodies, bytes) = (book.bodies(), book.to_bytes());
         let room = rng.bytes(bytes.len());
         let room = with_tail(&mut rng, room);
         let write = |bodies: &[Vec<u8>; 3]| write_both(bodies, d.into(), 2, &room);
-        let (told, left) = write(&bodies);
-        assert_eq!(told, (0, bytes.len()));
-        assert!(left[..told.1] == bytes && left[told.1..] == room[told.1..]);
+        let (returned, left) = write(&bodies);
+        assert_eq!(returned, (0, bytes.len()));
+        assert!(left[..returned.1] == bytes && left[returned.1..] == room[returned.1..]);
         assert_eq!(plain::read_contents(&bytes), Ok(slices(&bodies)));
         for (i, power) in powers.iter().enumerate() {
             for bad in [1, most_times(d, *power) + 1] {

@@ -8,20 +8,20 @@ mod common;
 use cagvost::book::{Book, DIMENSIONS, MAX_CHOICES, MAX_ERRORS, MAX_OPERATIONS};
 use cagvost::book::{Operation, WeylError};
 use common::frames::{Buffers, carry_both};
-use common::plain::{Told, is_valid, read};
+use common::plain::{Returned, is_valid, read};
 use common::zero_tableau;
 use common::{BODIES, FULL, PAPER_BOOK, Rng, Shape, UNWRITTEN, layer_both, run_both, test_both};
 use common::{counted, cz, draw_book, draw_tableau, sum, with_byte, with_tail, with_times};
 
 /// What a run with good buffers says to the book.
-fn answer(book: &[u8]) -> Told {
+fn answer(book: &[u8]) -> Returned {
     let n = book
         .get(2)
         .copied()
         .filter(|n| (1..=64).contains(n))
         .unwrap_or(1);
     let results = vec![UNWRITTEN; 2 * MAX_CHOICES];
-    run_both(book, &zero_tableau(n), &results).told
+    run_both(book, &zero_tableau(n), &results).returned
 }
 
 /// A book with one operation, as bytes.
@@ -36,18 +36,18 @@ fn one_operation(d: u8, n: u8, entry: [u8; 4]) -> Vec<u8> {
 /// A book of a few operations of every kind, two of them powers, errors and choices.
 fn mixed_book() -> Book {
     let mut book = Book::new(5, 3);
-    book.strike(2, 4, 1)
+    book.error(2, 4, 1)
         .operation(Operation::Fourier { q: 0, times: 3 })
         .operation(Operation::PhaseGate { q: 1, times: 1 })
-        .strike(0, 1, 0)
-        .strike(1, 0, 3)
+        .error(0, 1, 0)
+        .error(1, 0, 3)
         .operation(sum(0, 2))
         .measure(2, 3)
         .operation(with_times(cz(2, 1), 4))
         .operation(Operation::Swap { c: 1, t: 0 })
         .operation(Operation::Multiplier { q: 1, u: 3 })
         .measure(0, 4)
-        .strike(2, 2, 2);
+        .error(2, 2, 2);
     book
 }
 
@@ -69,13 +69,13 @@ fn refusals_2_and_3_sizes() {
     let mut rng = Rng(23);
     for d in 0..=255 {
         for n in [0, 1, 2, 64, 65, 255] {
-            let told = answer(&Book::new(d, n).to_bytes());
+            let returned = answer(&Book::new(d, n).to_bytes());
             let expected = match (DIMENSIONS.contains(&d), (1..=64).contains(&n)) {
                 (false, _) => (2, 0),
                 (true, false) => (3, 0),
                 (true, true) => (0, 0),
             };
-            assert_eq!(told, expected, "d {d} n {n}");
+            assert_eq!(returned, expected, "d {d} n {n}");
             let junk = rng.bytes(40);
             layer_both(&junk, d.into(), n.into());
             test_both(&junk, d.into(), n.into());
@@ -130,9 +130,9 @@ fn refusal_5_every_operation_entry() {
     for (d, n) in [(3, 1), (3, 2), (5, 3), (31, 64)] {
         for code in (0..=8).chain([64, 128, 255]) {
             for (x, y, z) in triples(&edges(d, n)) {
-                let told = answer(&one_operation(d, n, [code, x, y, z]));
+                let returned = answer(&one_operation(d, n, [code, x, y, z]));
                 // A lone measurement lacks its choice.
-                assert!([(0, 0), (5, 0), (7, 0)].contains(&told));
+                assert!([(0, 0), (5, 0), (7, 0)].contains(&returned));
             }
         }
     }
@@ -154,7 +154,7 @@ fn refusal_5_every_factor() {
     {
         let (n, index) = (1 + rng.byte_below(3), rng.below(4));
         let mut book = Book::new(d, n);
-        book.strike(0, 1, 1);
+        book.error(0, 1, 1);
         for i in 0..4 {
             let q = rng.byte_below(n);
             let good = 1 + rng.byte_below(d - 1);
@@ -166,10 +166,10 @@ fn refusal_5_every_factor() {
         let before = Buffers::drawn(&mut rng, n, 1, tableau);
         let is_factor = (1..d).contains(&u);
         let expected = if is_factor { (0, 1) } else { (5, index) };
-        let struck = run_both(&book, &before.tableau, &before.results);
-        let (carried, _) = carry_both(&book, &before);
-        assert_eq!(struck.told, expected, "d {d} u {u}");
-        assert_eq!((carried.0, carried.1), expected, "d {d} u {u}");
+        let direct = run_both(&book, &before.tableau, &before.results);
+        let (framed, _) = carry_both(&book, &before);
+        assert_eq!(direct.returned, expected, "d {d} u {u}");
+        assert_eq!((framed.0, framed.1), expected, "d {d} u {u}");
     }
 }
 
@@ -215,7 +215,7 @@ fn refusal_6_errors() {
         let mut book = Book::new(5, 2);
         book.operation(Operation::Fourier { q: 0, times: 1 })
             .operation(sum(1, 0));
-        errors.iter().for_each(|&e| _ = book.error(e));
+        errors.iter().for_each(|&e| _ = book.error_at(e));
         book.to_bytes()
     };
     assert_eq!(answer(&book(&[good, good])), (0, 0));
@@ -226,9 +226,9 @@ fn refusal_6_errors() {
     // The first error has nothing to fall from; without operations only place 0 is good.
     assert_eq!(answer(&book(&[WeylError { place: 0, ..good }])), (0, 0));
     let mut empty = Book::new(5, 2);
-    empty.error(WeylError { place: 0, ..good });
+    empty.error_at(WeylError { place: 0, ..good });
     assert_eq!(answer(&empty.to_bytes()), (0, 0));
-    empty.error(good);
+    empty.error_at(good);
     assert_eq!(answer(&empty.to_bytes()), (6, 1));
 }
 
@@ -274,15 +274,18 @@ fn earlier_numbers_win_over_later_ones() {
     let mut invalid = zero_tableau(3);
     invalid[0] = 2;
     let results = [UNWRITTEN; 4];
-    assert_eq!(run_both(&book, &[], &[]).told, (8, 0));
-    for (place, byte, told) in faults {
+    assert_eq!(run_both(&book, &[], &[]).returned, (8, 0));
+    for (place, byte, expected) in faults {
         book[place] = byte;
         // A bad book beats short buffers and an invalid tableau.
-        assert_eq!(run_both(&book, &zero_tableau(3), &results).told, told);
-        assert_eq!(run_both(&book, &[], &[]).told, told);
-        assert_eq!(run_both(&book, &invalid, &results).told, told);
+        assert_eq!(
+            run_both(&book, &zero_tableau(3), &results).returned,
+            expected
+        );
+        assert_eq!(run_both(&book, &[], &[]).returned, expected);
+        assert_eq!(run_both(&book, &invalid, &results).returned, expected);
         let junk = rng.bytes(50);
-        assert_eq!(run_both(&book, &junk, &junk).told, told);
+        assert_eq!(run_both(&book, &junk, &junk).returned, expected);
     }
 }
 
@@ -296,27 +299,27 @@ fn refusal_8_short_buffers() {
         (0..n).for_each(|q| _ = book.measure(q, 1));
         let (book, tableau) = (book.to_bytes(), draw_tableau(&mut rng, 7, n));
         let (needed, results) = (tableau.len(), vec![UNWRITTEN; 2 * usize::from(n)]);
-        assert_eq!(run_both(&book, &tableau, &results).told, (0, n.into()));
+        assert_eq!(run_both(&book, &tableau, &results).returned, (0, n.into()));
         for length in [0, 1, needed / 2, needed - 1] {
             let short = &tableau[..length];
-            assert_eq!(run_both(&book, short, &results).told, (8, 0));
+            assert_eq!(run_both(&book, short, &results).returned, (8, 0));
             assert_eq!(layer_both(short, 7, n.into()).0, (8, 0));
             assert_eq!(test_both(short, 7, n.into()), (8, 0));
         }
         for length in [0, 1, results.len() - 1] {
             let short = &results[..length];
-            assert_eq!(run_both(&book, &tableau, short).told, (8, 0));
+            assert_eq!(run_both(&book, &tableau, short).returned, (8, 0));
             // A short buffer beats an invalid tableau.
             let invalid = with_byte(&tableau, needed - 1, 7);
-            assert_eq!(run_both(&book, &invalid, short).told, (8, 0));
-            assert_eq!(run_both(&book, &invalid, &results).told, (9, 0));
+            assert_eq!(run_both(&book, &invalid, short).returned, (8, 0));
+            assert_eq!(run_both(&book, &invalid, &results).returned, (9, 0));
         }
     }
 }
 
 #[test]
 fn sizes_are_tested_before_buffers() {
-    for (d, n, told) in [
+    for (d, n, expected) in [
         (9, 0, (2, 0)),
         (37, 65, (2, 0)),
         (259, 257, (2, 0)),
@@ -327,8 +330,8 @@ fn sizes_are_tested_before_buffers() {
         (3, 64, (8, 0)),
     ] {
         for buffer in [vec![], vec![255; 5]] {
-            assert_eq!(layer_both(&buffer, d, n).0, told);
-            assert_eq!(test_both(&buffer, d, n), told);
+            assert_eq!(layer_both(&buffer, d, n).0, expected);
+            assert_eq!(test_both(&buffer, d, n), expected);
         }
     }
 }
@@ -343,9 +346,12 @@ fn refusal_9_every_byte_of_a_small_tableau() {
         let tableau = draw_tableau(&mut rng, 3, 2);
         for (place, byte) in (0..tableau.len()).flat_map(|i| (0..=255).map(move |x| (i, x))) {
             let damaged = with_byte(&tableau, place, byte);
-            let told = test_both(&damaged, 3, 2);
-            assert!(told == (0, 0) || told == (9, 0));
-            assert_eq!(run_both(&book, &damaged, &[UNWRITTEN; 4]).told.0, told.0);
+            let returned = test_both(&damaged, 3, 2);
+            assert!(returned == (0, 0) || returned == (9, 0));
+            assert_eq!(
+                run_both(&book, &damaged, &[UNWRITTEN; 4]).returned.0,
+                returned.0
+            );
         }
     }
 }
@@ -365,11 +371,11 @@ fn refusal_9_damaged_tableaus_of_every_size() {
             0 => d + rng.byte_below(255 - d),
             _ => (tableau[place] + 1 + rng.byte_below(d - 1)) % d,
         };
-        let told = test_both(&tableau, modulus, n.into());
+        let returned = test_both(&tableau, modulus, n.into());
         if tableau[place] >= d {
-            assert_eq!(told, (9, 0), "a byte not below d");
+            assert_eq!(returned, (9, 0), "a byte not below d");
         } else if place % width == width - 1 {
-            assert_eq!(told, (0, 0), "another phase is as good");
+            assert_eq!(returned, (0, 0), "another phase is as good");
         }
         run_both(&Book::new(d, n).to_bytes(), &tableau, &[]);
     }
@@ -424,13 +430,13 @@ fn bytes_past_the_needed_ones_are_kept() {
         let room = rng.bytes(2 * book.measurements());
         let results = with_tail(&mut rng, room);
         let run = run_both(&book.to_bytes(), &tableau, &results);
-        assert_eq!(run.told, (0, book.measurements()));
+        assert_eq!(run.returned, (0, book.measurements()));
         let (needed, filled) = (cagvost::tableau_len(n.into()), 2 * book.measurements());
         assert_eq!(run.tableau[needed..], tableau[needed..]);
         assert_eq!(run.results[filled..], results[filled..]);
         let junk = rng.bytes(needed + 5);
-        let (told, laid) = layer_both(&junk, d.into(), n.into());
-        assert_eq!((told, &laid[needed..]), ((0, 0), &junk[needed..]));
+        let (returned, laid) = layer_both(&junk, d.into(), n.into());
+        assert_eq!((returned, &laid[needed..]), ((0, 0), &junk[needed..]));
     }
 }
 
@@ -505,8 +511,8 @@ fn random_bytes_as_books() {
             book[..4].copy_from_slice(&[81, 3, 2, 3]);
         }
         let (tableau, results) = (rng.bytes(40), rng.bytes(10));
-        let told = run_both(&book, &tableau, &results).told;
-        assert_ne!(told.0, 0, "an unlikely book: {book:02x?}");
+        let returned = run_both(&book, &tableau, &results).returned;
+        assert_ne!(returned.0, 0, "an unlikely book: {book:02x?}");
     }
 }
 
@@ -522,8 +528,8 @@ fn random_bytes_as_bodies_and_tableaus() {
             .iter_mut()
             .for_each(|x| *x = rng.byte_below(end));
         let tableau: Vec<u8> = (0..42).map(|_| rng.byte_below(3)).collect();
-        let told = run_both(&book, &tableau, &[UNWRITTEN; 16]).told;
+        let returned = run_both(&book, &tableau, &[UNWRITTEN; 16]).returned;
         let accepted = read(&book).is_ok_and(|book| is_valid(book.d, book.n, &tableau));
-        assert_eq!(told.0 == 0, accepted);
+        assert_eq!(returned.0 == 0, accepted);
     }
 }

@@ -8,7 +8,7 @@ mod common;
 
 use cagvost::book::{Book, DIMENSIONS, MAX_ERRORS, MAX_OPERATIONS, Operation, WeylError};
 use cagvost::{MAX_SHOTS, Refusal, Shots, Tray, TrayCounts, Verdict};
-use common::trays::{Lent, Told, draw_circuit, draw_errors, draw_tray, separate, tray_both};
+use common::trays::{Lent, Returned, draw_circuit, draw_errors, draw_tray, separate, tray_both};
 use common::{PAPER_BOOK, Rng, Shape, UNWRITTEN, draw_book, draw_error, paper_book, slices};
 use common::{draw_gate, draw_tableau, sum, with_byte, without_errors, zero_tableau};
 use std::thread;
@@ -30,8 +30,8 @@ fn the_circuit_of_the_paper_book() {
         .shot(&[error(1, 1, 0)]) // the book's own error: X before both measurements
         .shot(&[error(0, 0, 2)]) // Z^2 on a level
         .shot(&[error(0, 2, 0), error(1, 2, 1)]);
-    let (told, out) = tray_both(&Lent::zero(&paper_book(), &tray));
-    assert_eq!(told, (0, 2, 2));
+    let (returned, out) = tray_both(&Lent::zero(&paper_book(), &tray));
+    assert_eq!(returned, (0, 2, 2));
     #[rustfmt::skip]
     assert_eq!(out, [
         0, 2, 1, 2, 0,
@@ -51,8 +51,8 @@ fn each_row_alone() {
             for q in 0..n {
                 tray.body(&[0, 0, q, power, 0]).body(&[0, 0, q, 0, power]);
             }
-            let (told, out) = tray_both(&Lent::zero(&Book::new(d, n), &tray));
-            assert_eq!(told, (0, n.into(), n.into()));
+            let (returned, out) = tray_both(&Lent::zero(&Book::new(d, n), &tray));
+            assert_eq!(returned, (0, n.into(), n.into()));
             assert!(out.chunks(2).all(|verdicts| verdicts == [1, 0]));
         }
     }
@@ -68,8 +68,8 @@ fn choices_serve_every_shot() {
             .measure(0, d - 1 - choice);
         let mut tray = Tray::new();
         (0..d).for_each(|p| _ = tray.body(&[1, 0, 0, p, 0]));
-        let (told, out) = tray_both(&Lent::zero(&book, &tray));
-        assert_eq!(told, (0, 1, usize::from(d) - 1));
+        let (returned, out) = tray_both(&Lent::zero(&book, &tray));
+        assert_eq!(returned, (0, 1, usize::from(d) - 1));
         for (p, row) in (0..d).zip(out.chunks(5)) {
             let level = (choice + p) % d;
             assert_eq!(row, [u8::from(p > 0), level, 1, level, 0]);
@@ -77,7 +77,7 @@ fn choices_serve_every_shot() {
     }
 }
 
-/// The book's own errors strike no shot, not even one without errors.
+/// The book's own errors are applied in no shot, not even one without errors.
 #[test]
 fn the_books_own_errors_are_not_used() {
     let mut rng = Rng(3);
@@ -114,8 +114,8 @@ fn harmless_errors_end_as_none() {
             let body: Vec<u8> = (0..count).flat_map(|_| z(&mut rng)).collect();
             tray.body(&body);
         }
-        let (told, out) = tray_both(&Lent::zero(&book, &tray));
-        assert_eq!(told, (0, 40, 0));
+        let (returned, out) = tray_both(&Lent::zero(&book, &tray));
+        assert_eq!(returned, (0, 40, 0));
         let rows: Vec<&[u8]> = out.chunks(21).collect();
         assert!(rows.iter().all(|row| *row == rows[0]));
     }
@@ -132,13 +132,13 @@ fn accept(rng: &mut Rng, book: &Book, tray: &Tray) -> [usize; 2] {
 
 /// Runs a small circuit with a tray whose shots have one to three errors where the pattern says so,
 /// and else none.
-fn run_pattern(rng: &mut Rng, struck: impl IntoIterator<Item = bool>) {
+fn run_pattern(rng: &mut Rng, noisy: impl IntoIterator<Item = bool>) {
     let d = DIMENSIONS[rng.below(DIMENSIONS.len())];
     let (n, measurements) = (1 + rng.byte_below(3), [1, 2, 3, 17][rng.below(4)]);
     let book = draw_circuit(rng, d, n, 8, measurements);
     let mut tray = Tray::new();
-    for is_struck in struck {
-        let count = if is_struck { 1 + rng.below(3) } else { 0 };
+    for is_noisy in noisy {
+        let count = if is_noisy { 1 + rng.below(3) } else { 0 };
         tray.shot(&draw_errors(rng, &book, count));
     }
     accept(rng, &book, &tray);
@@ -167,8 +167,8 @@ fn shots_without_errors_alone() {
 #[test]
 fn shots_without_errors_among_others() {
     let mut rng = Rng(258);
-    for struck in [1, 2, 255, 256, 257, 512, 513] {
-        let (some, none) = (vec![true; struck], vec![false; 300]);
+    for noisy in [1, 2, 255, 256, 257, 512, 513] {
+        let (some, none) = (vec![true; noisy], vec![false; 300]);
         run_pattern(&mut rng, [&some[..], &[false]].concat());
         run_pattern(&mut rng, [&[false], &some[..]].concat());
         run_pattern(&mut rng, [&some[..], &none[..]].concat());
@@ -176,11 +176,11 @@ fn shots_without_errors_among_others() {
         run_pattern(&mut rng, [&some[..], &none[..], &some[..]].concat());
         run_pattern(&mut rng, [&none[..], &some[..], &none[..]].concat());
         // One by one, with a shot without errors at first, at last or at neither end.
-        run_pattern(&mut rng, (0..2 * struck).map(|i| i % 2 == 0));
-        run_pattern(&mut rng, (0..2 * struck).map(|i| i % 2 == 1));
-        run_pattern(&mut rng, (0..2 * struck - 1).map(|i| i % 2 == 0));
+        run_pattern(&mut rng, (0..2 * noisy).map(|i| i % 2 == 0));
+        run_pattern(&mut rng, (0..2 * noisy).map(|i| i % 2 == 1));
+        run_pattern(&mut rng, (0..2 * noisy - 1).map(|i| i % 2 == 0));
         // In blocks of other lengths.
-        run_pattern(&mut rng, (0..2 * struck).map(|i| i / 100 % 2 == 0));
+        run_pattern(&mut rng, (0..2 * noisy).map(|i| i / 100 % 2 == 0));
     }
 }
 
@@ -204,10 +204,10 @@ fn few_shots_with_errors_in_a_full_tray() {
 fn shots_without_errors_drawn_among_others() {
     let mut rng = Rng(259);
     for one_in in [2, 3, 10, 100] {
-        let mut struck: Vec<bool> = (0..1500).map(|_| rng.once_in(one_in)).collect();
-        run_pattern(&mut rng, struck.clone());
-        struck.iter_mut().for_each(|struck| *struck = !*struck);
-        run_pattern(&mut rng, struck);
+        let mut noisy: Vec<bool> = (0..1500).map(|_| rng.once_in(one_in)).collect();
+        run_pattern(&mut rng, noisy.clone());
+        noisy.iter_mut().for_each(|noisy| *noisy = !*noisy);
+        run_pattern(&mut rng, noisy);
     }
 }
 
@@ -466,7 +466,7 @@ fn full_books() {
 fn small_book() -> Book {
     let mut book = Book::new(5, 2);
     book.operation(Operation::Fourier { q: 0, times: 1 })
-        .strike(1, 4, 4)
+        .error(1, 4, 4)
         .operation(sum(0, 1))
         .measure(0, 4)
         .measure(1, 0);
@@ -497,7 +497,7 @@ fn small() -> Lent {
 }
 
 /// What a run of the small book says to the tray, with room for every tray there is.
-fn answer(tray: &[u8]) -> Told {
+fn answer(tray: &[u8]) -> Returned {
     let lent = Lent {
         tray: tray.to_vec(),
         out: vec![UNWRITTEN; 5 * 70],
@@ -677,7 +677,7 @@ fn refusal_6_of_the_book_and_of_the_tray() {
     let tray_is_bad = Err(Refusal::TrayShot { shot: 5 });
     let book_is_bad = Err(Refusal::ErrorEntry { index: 1 });
     assert_eq!(run(&book, &bad_tray), tray_is_bad);
-    book.error(bad_errors()[0]);
+    book.error_at(bad_errors()[0]);
     assert_eq!(run(&book, &small_tray()), book_is_bad);
     assert_eq!(run(&book, &bad_tray), book_is_bad);
 }
@@ -690,14 +690,14 @@ fn refusal_8_short_buffers() {
     for length in 0..=tableau + 3 {
         let mut lent = lent.clone();
         lent.tableau.resize(length, 0);
-        let told = tray_both(&lent).0;
-        assert_eq!(told.0, if length < tableau { 8 } else { 0 });
+        let returned = tray_both(&lent).0;
+        assert_eq!(returned.0, if length < tableau { 8 } else { 0 });
     }
     for length in 0..=out + 3 {
         let mut lent = lent.clone();
         lent.out.resize(length, UNWRITTEN);
-        let told = tray_both(&lent).0;
-        assert_eq!(told.0, if length < out { 8 } else { 0 });
+        let returned = tray_both(&lent).0;
+        assert_eq!(returned.0, if length < out { 8 } else { 0 });
     }
     // Without shots nothing is written, and the tableau is still tested.
     let mut none = Lent::zero(&small_book(), &Tray::new());
@@ -741,7 +741,7 @@ fn refusal_9_every_byte_of_the_tableau() {
 // ---- Several faults
 
 /// What refuses a fault, and how the fault is made.
-type Fault = (Told, fn(&mut Lent));
+type Fault = (Returned, fn(&mut Lent));
 
 /// One fault of the small book and tray for each number, in the order in which they are tested.
 const FAULTS: [Fault; 12] = [
@@ -760,13 +760,13 @@ const FAULTS: [Fault; 12] = [
 ];
 
 #[test]
-fn the_first_of_several_faults_is_told() {
+fn the_first_of_several_faults_is_returned() {
     for chosen in 0..1 << FAULTS.len() {
         let mut lent = small();
         let mut first = None;
-        for (_, (told, make)) in (0..).zip(FAULTS).filter(|(i, _)| chosen >> i & 1 == 1) {
+        for (_, (expected, make)) in (0..).zip(FAULTS).filter(|(i, _)| chosen >> i & 1 == 1) {
             make(&mut lent);
-            first = first.or(Some(told));
+            first = first.or(Some(expected));
         }
         assert_eq!(tray_both(&lent).0, first.unwrap_or((0, 1, 4)));
     }

@@ -8,11 +8,11 @@
 mod common;
 
 use cagvost::book::{Book, DIMENSIONS, MAX_CHOICES, MAX_ERRORS, MAX_OPERATIONS, Operation};
-use common::plain::{self, Told};
+use common::plain::{self, Returned};
 use common::{
     BODIES, FULL, PAPER_BOOK, Rng, Run, Shape, UNWRITTEN, counted, draw_book, paper_book,
 };
-use common::{run_both, slices, told, with_byte, with_tail, write_both, zero_tableau};
+use common::{returned, run_both, slices, with_byte, with_tail, write_both, zero_tableau};
 
 /// What the writer is handed beside the buffer.
 #[derive(Clone, Debug, PartialEq, Eq)]
@@ -53,18 +53,18 @@ impl Handed {
         cagvost::book_len(operations, errors, choices)
     }
 
-    fn write(&self, out: &[u8]) -> (Told, Vec<u8>) {
+    fn write(&self, out: &[u8]) -> (Returned, Vec<u8>) {
         write_both(&self.bodies, self.d, self.n, out)
     }
 
     /// What the writer says when the buffer is long enough. It must be what the library's reader
     /// says to the bytes that these bodies make, and an accepted book must be just these bytes.
-    fn answer(&self) -> Told {
+    fn answer(&self) -> Returned {
         let book = plain::book_of(slices(&self.bodies), self.d, self.n);
         let room = vec![UNWRITTEN; book.len()];
         let (answer, left) = self.write(&room);
         // Of an accepted book, a run and the writer say 8 if their buffers are too short.
-        let read = run_both(&book, &[], &[]).told;
+        let read = run_both(&book, &[], &[]).returned;
         assert_eq!(self.write(&room[1..]).0, read, "{self:02x?}");
         if read == (8, 0) {
             assert_eq!(answer, (0, book.len()), "{self:02x?}");
@@ -114,7 +114,7 @@ fn every_single_byte_damage_of_the_paper_book() {
 // ---- The order of the refusals
 
 /// What refuses a fault, and how the fault is made.
-type Fault = (Told, fn(&mut Handed));
+type Fault = (Returned, fn(&mut Handed));
 
 /// One fault of the paper's book for each number and, of 4, for each body, in the order in which
 /// they are tested.
@@ -130,15 +130,15 @@ const FAULTS: [Fault; 8] = [
 ];
 
 #[test]
-fn the_first_of_several_faults_is_told() {
+fn the_first_of_several_faults_is_returned() {
     for chosen in 0..1 << FAULTS.len() {
         let mut handed = Handed::of(&paper_book());
         let faults = FAULTS.iter().enumerate();
         let faults = faults.filter(|(i, _)| chosen >> i & 1 == 1);
         let mut first = None;
-        for (_, (told, make)) in faults {
+        for (_, (expected, make)) in faults {
             make(&mut handed);
-            first = first.or(Some(*told));
+            first = first.or(Some(*expected));
         }
         assert_eq!(handed.answer(), first.unwrap_or((0, 45)));
         // Every fault of the book comes before a short buffer.
@@ -154,7 +154,7 @@ fn the_first_of_several_faults_is_told() {
 fn the_first_bad_entry_is_named() {
     // It has four operations, two of them measurements.
     let handed = Handed::of(&paper_book());
-    for (i, body, told) in [
+    for (i, body, expected) in [
         (0, vec![0, 0, 0, 0, 7, 0, 0, 0, 6, 2, 0, 0], (5, 1)),
         // A place after the end, and a place that falls.
         (1, vec![4, 0, 1, 1, 0, 5, 0, 1, 1, 0, 9, 9, 9, 9, 9], (6, 1)),
@@ -166,7 +166,7 @@ fn the_first_bad_entry_is_named() {
         (2, vec![9], (7, 1)),
         (2, vec![9, 0, 0, 0], (7, 2)),
     ] {
-        assert_eq!(handed.with_body(i, body).answer(), told);
+        assert_eq!(handed.with_body(i, body).answer(), expected);
     }
 }
 
@@ -216,7 +216,7 @@ fn the_edges_of_every_size() {
         let mut book = Book::new(d, n);
         book.operation(Operation::Multiplier { q, u: most })
             .measure(q, most)
-            .strike(q, most, most);
+            .error(q, most, most);
         let handed = Handed::of(&book);
         assert_eq!(handed.answer(), (0, 36));
         for (body, byte, refused) in next {
@@ -312,7 +312,7 @@ fn every_length_of_the_buffer() {
 fn run(book: &[u8], measurements: usize) -> Run {
     let (mut tableau, mut results) = (zero_tableau(book[2]), vec![UNWRITTEN; 2 * measurements]);
     Run {
-        told: told(cagvost::direct_run(book, &mut tableau, &mut results)),
+        returned: returned(cagvost::direct_run(book, &mut tableau, &mut results)),
         tableau,
         results,
     }
@@ -334,7 +334,7 @@ fn write_twice(rng: &mut Rng, book: &Book) {
     let (again, twice) = fetched.write(&room);
     assert!(again == answer && twice == left);
     let ran = run(written, book.measurements());
-    assert_eq!(ran.told, (0, book.measurements()));
+    assert_eq!(ran.returned, (0, book.measurements()));
     assert!(ran == run(&bytes, book.measurements()));
 }
 

@@ -1,3 +1,3 @@
 -- What the proofs of several functions use.
 pub mod Carried
-pub mod Told
+pub mod Results

@@ -5,15 +5,15 @@ use Prim.Native.Nat.{ℕ, _<_}
 use lib.ListN.{length}
 use Rattle.operation.specs.declared.Operation.{Operation}
 use Rattle.operation.specs.declared.WeylError.{WeylError}
-use Rattle.run.specs.Raised.{carried, finalFrame}
+use Rattle.runs.specs.Raised.{carriedFrame, finalFrame}
 use Rattle.lanes.specs.Lanes.{lane}
 
 -- each lane of v, carried over the first k operations with the errors of its shot, stands in w
 pub record CarriedTo (d n : ℕ) (ops : List Operation) (errors : ℕ → List WeylError) (k : ℕ) (v w : List ℕ) : Type 0 where
   pub len : length w ≡ length v
-  pub each : (l : ℕ) → l < 256 → lane n w l ≡ carried d n ops (errors l) 0 (lane n v l) k
+  pub each : (l : ℕ) → l < 256 → lane n w l ≡ carriedFrame d n ops (errors l) 0 (lane n v l) k
 
--- the same over all operations, with the errors after them
+-- each lane of v, carried over all operations and through the errors after them, stands in w
 pub record CarriedAll (d n : ℕ) (ops : List Operation) (errors : ℕ → List WeylError) (v w : List ℕ) : Type 0 where
   pub len : length w ≡ length v
   pub each : (l : ℕ) → l < 256 → lane n w l ≡ finalFrame d n ops (errors l) (lane n v l)

@@ -1,18 +1,10 @@
-// A block of up to 256 shots: their frames carried in lanes, their results told from the clean ones.
+// A block of up to 256 shots: their frames carried in lanes, their results from the clean ones.
 ghost use mathlib.Core.Path.{_≡_};
-ghost use Prim.Native.Nat.{ℕ, _+_, _*_, _/_, _<_, _≤_};
+ghost use Prim.Native.Nat.{_+_, _*_, _<_, _≤_};
 ghost use lib.ListN.{length};
-ghost use Rattle.modular.specs.Modular.{Reciprocal};
-ghost use Rattle.circuit.specs.Circuit.{measured};
-ghost use Rattle.book.specs.Decoded.{operationsOf};
 ghost use Rattle.lanes.specs.Lanes.{Lanes};
-ghost use Rattle.calendar.specs.Passing.{laneErrors, Block};
-ghost use Rattle.calendar.specs.Calendar.{Filed};
-ghost use Rattle.block.specs.Carried.{CarriedAll};
-ghost use Rattle.block.specs.Block.{Empty, Told, Setting, Stepped, AllTold};
-ghost use mathlib.Core.List.{List};
-ghost use Rattle.operation.specs.declared.Operation.{Operation};
-ghost use Rattle.operation.specs.declared.WeylError.{WeylError};
+ghost use Rattle.tile.specs.Tile.{TileRoom, ShotsRoom};
+ghost use Rattle.block.specs.Block.{measurementsOf, CleanCircuit, AtOperation, BlockStart, Stepped, ResultsKept, BlockCarried, BlockResults};
 
 // Operation k on each lane; a measurement's results go to row y of the tile. How many
 // measurements there are up to it, itself among them, is returned.
@@ -29,22 +21,19 @@ fn perform(
     m: u16,
     n: usize,
 ) -> usize
-    requires { ⌜ (k < length (now ops) / 4)
-        × Setting d n (now ops) (now clean)
+    requires { ⌜ AtOperation d m n (now ops) (now clean) k j
         × Lanes d n (now v)
-        × (j ≡ measured (operationsOf d n (now ops)) k)
         × (length (now tile) ≡ 4096)
         × (length (now marks) ≡ 16)
-        × (y < 16)
-        × Reciprocal d m ⌝ }
-    ensures { λ r. ⌜ Stepped d n (operationsOf d n (now (ops .entry))) (now (clean .entry)) k j y (now (v .entry)) (now (tile .entry)) (now (marks .entry)) (now (v .exit)) (now (tile .exit)) (now (marks .exit)) r
+        × (y < 16) ⌝ }
+    ensures { λ r. ⌜ Stepped d n (now (ops .entry)) (now (clean .entry)) k j y (now (v .entry)) (now (tile .entry)) (now (marks .entry)) (now (v .exit)) (now (tile .exit)) (now (marks .exit)) r
         × Lanes d n (now (v .exit))
         × (length (now (tile .exit)) ≡ 4096)
         × (length (now (marks .exit)) ≡ 16) ⌝ }
 {
     if ops[4 * k] == 6 {
-        let q = entries::wide(ops[4 * k + 1]);
-        tile::note(tile, v, y, q, clean[2 * j], d, n);
+        let q = casts::byte_as_usize(ops[4 * k + 1]);
+        tile::write_row(tile, v, y, q, clean[2 * j], d, n);
         marks[y] = clean[2 * j + 1];
         return j + 1;
     }
@@ -54,7 +43,7 @@ fn perform(
 
 // A full tile is written to the shots. The number of results that are written is returned. (The length of the loops in `flush` is not
 // told to the compiler: a constant 16 would be unrolled into single bytes.)
-fn settle(
+fn flush_full(
     out: &mut [u8],
     tile: &mut [u8],
     spare: &mut [u8],
@@ -64,20 +53,15 @@ fn settle(
     w: usize,
     used: usize,
 ) -> usize
-    requires { ⌜ (length (now tile) ≡ 4096)
-        × (length (now spare) ≡ 4096)
-        × (length (now marks) ≡ 16)
-        × (used ≤ 256)
+    requires { ⌜ TileRoom (now tile) (now spare) (now marks)
         × (base ≤ j)
         × (j ≤ base + 16)
         × (1 + 2 * j ≤ w)
-        × (w < 65536)
-        × (used * w ≤ length (now out)) ⌝ }
-    ensures { λ r. ⌜ ((d n : ℕ) (ops : List Operation) (errors : ℕ → List WeylError) (clean : List ℕ) → Told d n ops errors clean w used base j (now (tile .entry)) (now (marks .entry)) (now (out .entry)) → Told d n ops errors clean w used r j (now (tile .exit)) (now (marks .entry)) (now (out .exit)))
+        × ShotsRoom w used (now out) ⌝ }
+    ensures { λ r. ⌜ ResultsKept w used base r j (now (tile .entry)) (now (marks .entry)) (now (out .entry)) (now (tile .exit)) (now (out .exit))
         × (r ≤ j)
         × (j < r + 16)
-        × (length (now (tile .exit)) ≡ 4096)
-        × (length (now (spare .exit)) ≡ 4096)
+        × TileRoom (now (tile .exit)) (now (spare .exit)) (now (marks .entry))
         × (length (now (out .exit)) ≡ length (now (out .entry))) ⌝ }
 {
     if base + 16 <= j {
@@ -108,22 +92,14 @@ pub fn run(
     d: u8,
     n: usize,
 )
-    requires { ⌜ (length (now ops) < 65536)
-        × Setting d n (now ops) (now clean)
-        × Block d n (now tray) (now starts) (now sizes)
-        × Lanes d n (now v)
-        × Empty n (now v)
-        × Filed (laneErrors (now tray) (now starts) (now sizes)) (now slots) (now counts) (now cursors) 0
-        × (length (now tile) ≡ 4096)
-        × (length (now spare) ≡ 4096)
-        × (length (now marks) ≡ 16)
-        × (used ≤ 256)
-        × (w ≡ 1 + 2 * measured (operationsOf d n (now ops)) (length (operationsOf d n (now ops))))
-        × (w < 65536)
-        × (used * w ≤ length (now out)) ⌝ }
-    ensures { λ _. ⌜ CarriedAll d n (operationsOf d n (now (ops .entry))) (laneErrors (now (tray .entry)) (now (starts .entry)) (now (sizes .entry))) (now (v .entry)) (now (v .exit))
+    requires { ⌜ CleanCircuit d n (now ops) (now clean)
+        × BlockStart d n (now tray) (now starts) (now sizes) (now v) (now slots) (now counts) (now cursors)
+        × TileRoom (now tile) (now spare) (now marks)
+        × (w ≡ 1 + 2 * measurementsOf d n (now ops))
+        × ShotsRoom w used (now out) ⌝ }
+    ensures { λ _. ⌜ BlockCarried d n (now (ops .entry)) (now (tray .entry)) (now (starts .entry)) (now (sizes .entry)) (now (v .entry)) (now (v .exit))
         × Lanes d n (now (v .exit))
-        × AllTold d n (operationsOf d n (now (ops .entry))) (laneErrors (now (tray .entry)) (now (starts .entry)) (now (sizes .entry))) (now (clean .entry)) w used (now (out .entry)) (now (out .exit)) ⌝ }
+        × BlockResults d n (now (ops .entry)) (now (tray .entry)) (now (starts .entry)) (now (sizes .entry)) (now (clean .entry)) w used (now (out .entry)) (now (out .exit)) ⌝ }
 {
     let m = modular::reciprocal(d);
     let count = ops.len() / 4;
@@ -131,13 +107,13 @@ pub fn run(
     let mut j = 0;
     let mut base = 0;
     while k < count {
-        calendar::strike_place(v, slots, counts, cursors, tray, starts, sizes, k, d, n);
+        calendar::apply_at_place(v, slots, counts, cursors, tray, starts, sizes, k, d, n);
         let y = j - base;
         j = perform(v, tile, marks, ops, clean, k, j, y, d, m, n);
-        base = settle(out, tile, spare, marks, base, j, w, used);
+        base = flush_full(out, tile, spare, marks, base, j, w, used);
         k += 1;
     }
-    calendar::strike_place(v, slots, counts, cursors, tray, starts, sizes, k, d, n);
+    calendar::apply_at_place(v, slots, counts, cursors, tray, starts, sizes, k, d, n);
     let t = j - base;
     tile::flush(out, tile, spare, marks, base, t, w, used);
 }

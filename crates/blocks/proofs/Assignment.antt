@@ -15,15 +15,15 @@ use borrow.Author.Tests.{eq-eqb, ne-eqb, ltb-true, lt-ltb}
 use Rattle.search.proofs.Search.{both}
 use Rattle.row.specs.Row.{tab}
 use Rattle.tableau.specs.Tableau.{part}
-use Rattle.circuit.specs.Circuit.{Strikes}
+use Rattle.circuit.specs.Circuit.{ErrorsInOrder}
 use Rattle.book.specs.Decoded.{errorsOf}
 use Rattle.tray.specs.Tray.{shotsIn, lengthAt, startOf}
 use Rattle.expand.specs.Expand.{noisyAmong}
-use Rattle.calendar.specs.Passing.{laneErrors, Block}
+use Rattle.calendar.specs.LaneErrors.{laneErrors, LaneBodies}
 use Rattle.lane_shots.specs.LaneShots.{blank}
 use Rattle.lane_shots.proofs.Starting.{blank-length, zeros}
 use Rattle.expand.proofs.Noisy.{noisy-none, noisy-one, noisy-less}
-use Rattle.blocks.specs.Blocks.{shotErrors, OfShot, NoBody, Assigned, Loaded}
+use Rattle.blocks.specs.Blocks.{shotErrors, OfShot, NoBody, Assigned, TrayErrors}
 
 -- the loop's test
 pub taken-both : (a b c e : ℕ) → ltb a b && ltb c e ≡ true → (a < b) × (c < e)
@@ -103,23 +103,21 @@ module _ {tray : List ℕ} {first count : ℕ} {starts sizes : List ℕ} (h : As
   pub lane-errors : (i : ℕ) → i < count → lengthAt tray (first + i) ≢ 0 → laneErrors tray starts sizes (noisyAmong tray first i) ≡ shotErrors tray (first + i)
   lane-errors i l z = rw (h .lane-of i l z .0, h .lane-of i l z .1)
 
-  module _ (d n : ℕ) (loaded : Loaded d n tray) where
+  module _ (d n : ℕ) (loaded : TrayErrors d n tray) where
     inside : (start size : ℕ) → OfShot tray start size ⊎ NoBody start size → start + size ≤ length tray
     inside start size (inl a) = rw (a .begins, a .long) (loaded .lies .inside (a .shot) (a .inside))
     inside start size (inr a) = omega (arith, a .begins, a .long)
 
-    strikes : (start size : ℕ) → OfShot tray start size ⊎ NoBody start size → Strikes d n (errorsOf (part start size tray))
-    strikes start size (inl a) = rw (a .begins, a .long) (loaded .strikes (a .shot) (a .inside))
-    strikes start size (inr a) =
+    errors-in-order : (start size : ℕ) → OfShot tray start size ⊎ NoBody start size → ErrorsInOrder d n (errorsOf (part start size tray))
+    errors-in-order start size (inl a) = rw (a .begins, a .long) (loaded .errors-in-order (a .shot) (a .inside))
+    errors-in-order start size (inr a) =
         rw (no-bytes start size tray (a .long)) (record { each = λ j z. absurd (omega arith); in-order = λ i j o z. absurd (omega arith) })
 
-    pub block-of : d ≤ 31 → n ≤ 64 → Block d n tray starts sizes
-    block-of high few =
+    pub block-of : LaneBodies d n tray starts sizes
+    block-of =
         record {
-          dimension = high;
-          qudits = few;
           starts-room = h .starts-room;
           sizes-room = h .sizes-room;
           inside = λ l m. inside (getD starts l 0) (getD sizes l 0) (h .shot-of l m);
-          strikes = λ l m. strikes (getD starts l 0) (getD sizes l 0) (h .shot-of l m);
+          errors-in-order = λ l m. errors-in-order (getD starts l 0) (getD sizes l 0) (h .shot-of l m);
         }

@@ -12,13 +12,13 @@ use Rattle.tableau.specs.Tableau.{part, put}
 use Rattle.tableau.proofs.Parts.{row-in, part-length, part-at, put-length, put-left, put-in, put-right}
 use Rattle.operation.specs.declared.Operation.{Operation}
 use Rattle.operation.specs.declared.WeylError.{WeylError}
-use Rattle.run.specs.Direct.{State}
-use Rattle.run.specs.Frame.{noFrame}
-use Rattle.run.specs.Raised.{finalFrame}
+use Rattle.runs.specs.Direct.{State}
+use Rattle.runs.specs.Frame.{noFrame}
+use Rattle.runs.specs.Raised.{finalFrame}
 use Rattle.tile.specs.Tile.{shotAt}
-use Rattle.verdicts.proofs.Judged.{verdict-small}
-use Rattle.lane_shots.specs.LaneShots.{bytesBy, shiftedBy, ShotRows}
-use Rattle.blocks.specs.Blocks.{Filled}
+use Rattle.verdicts.proofs.Written.{verdict-small}
+use Rattle.lane_shots.specs.LaneShots.{bytesBy, shiftedShots, ShotRows}
+use Rattle.blocks.specs.Blocks.{ShotsFilled}
 
 -- rows that have the same bytes
 same-row : (w i : ℕ) (a b : List ℕ) → i * w + w ≤ length a → length b ≡ length a → ((x : ℕ) → x < w → getD b (i * w + x) 0 ≡ getD a (i * w + x) 0)
@@ -31,7 +31,7 @@ same-row w i a b room len h =
     part-at (i * w) w b x k ∙ h x k ∙ sym (part-at (i * w) w a x k))
 
 module _ (d n : ℕ) (ops : List Operation) (clean : State) (errors : ℕ → List WeylError) (w : ℕ) where
-  pub filled-none : (out : List ℕ) → Filled d n ops clean errors w 0 0 out out
+  pub filled-none : (out : List ℕ) → ShotsFilled d n ops clean errors w 0 0 out out
   filled-none out = record { len = refl; rows = λ i h g. absurd (omega arith); before = λ b h. refl; after = λ b h. refl }
 
   -- one block, in its part of the buffer
@@ -62,7 +62,7 @@ module _ (d n : ℕ) (ops : List Operation) (clean : State) (errors : ℕ → Li
         ∙ sym (part-at (i * w) w ys x k))
         ∙ h .rows i l
 
-    pub filled-block : Filled d n ops clean errors w first (first + count) out (put (first * w) (count * w) ys out)
+    pub filled-block : ShotsFilled d n ops clean errors w first (first + count) out (put (first * w) (count * w) ys out)
     filled-block =
         record {
           len = whole;
@@ -73,9 +73,9 @@ module _ (d n : ℕ) (ops : List Operation) (clean : State) (errors : ℕ → Li
 
   -- one block more
   pub filled-more : (first next : ℕ) (out mid out' : List ℕ) → first ≤ next → next * w ≤ length out
-      → Filled d n ops clean errors w 0 first out mid
-      → Filled d n ops clean errors w first next mid out'
-      → Filled d n ops clean errors w 0 next out out'
+      → ShotsFilled d n ops clean errors w 0 first out mid
+      → ShotsFilled d n ops clean errors w first next mid out'
+      → ShotsFilled d n ops clean errors w 0 next out out'
   filled-more first next out mid out' low room a b =
       record {
         len = b .len ∙ a .len;
@@ -92,18 +92,18 @@ module _ (d n : ℕ) (ops : List Operation) (clean : State) (errors : ℕ → Li
       by i g (no l) = b .rows i (omega arith) g
 
   -- how many are shifted
-  pub shifted-none : shiftedBy d n ops clean errors 0 ≡ 0
-  unfolding shiftedBy
+  pub shifted-none : shiftedShots d n ops clean errors 0 ≡ 0
+  unfolding shiftedShots
   shifted-none = refl
 
-  pub shifted-few : (k : ℕ) → shiftedBy d n ops clean errors k ≤ k
-  unfolding shiftedBy
+  pub shifted-few : (k : ℕ) → shiftedShots d n ops clean errors k ≤ k
+  unfolding shiftedShots
   shifted-few zero = omega arith
   shifted-few (suc k) = omega (arith, shifted-few k, verdict-small d n (finalFrame d n ops (errors k) (noFrame n)) (clean .rows))
 
   pub shifted-more : (first k : ℕ)
-      → shiftedBy d n ops clean errors (first + k) ≡ shiftedBy d n ops clean errors first + shiftedBy d n ops clean (λ i. errors (first + i)) k
-  unfolding shiftedBy
+      → shiftedShots d n ops clean errors (first + k) ≡ shiftedShots d n ops clean errors first + shiftedShots d n ops clean (λ i. errors (first + i)) k
+  unfolding shiftedShots
   shifted-more first zero = let q : first + 0 ≡ first = omega arith in rw q (omega arith)
   shifted-more first (suc k) = let q : first + suc k ≡ suc (first + k) = omega arith in rw q (omega (arith, shifted-more first k))
 

@@ -15,15 +15,15 @@ use Rattle.operation.specs.declared.WeylError.{WeylError}
 use Rattle.operation.specs.Operation.{allowed}
 use Rattle.circuit.specs.Circuit.{opAt, measured}
 use Rattle.tray.specs.Tray.{lengthAt, startOf}
-use Rattle.run.specs.Direct.{State}
-use Rattle.run.specs.Frame.{noFrame, verdictOf}
-use Rattle.run.specs.Raised.{finalFrame}
-use Rattle.carrying.proofs.NoErrors.{final-clean}
-use Rattle.calendar.specs.Passing.{laneErrors}
+use Rattle.runs.specs.Direct.{State}
+use Rattle.runs.specs.Frame.{noFrame, verdictOf}
+use Rattle.runs.specs.Raised.{finalFrame}
+use Rattle.run_laws.proofs.NoErrors.{final-clean}
+use Rattle.calendar.specs.LaneErrors.{laneErrors}
 use Rattle.shots.specs.Clean.{cleanPlus}
 use Rattle.shots.proofs.NoErrors.{clean-alone}
-use Rattle.lane_shots.specs.LaneShots.{bytesBy, verdictBy, shiftedBy, ShotRows}
-use Rattle.expand.specs.Expand.{noisyAmong, rowOf, Expanded}
+use Rattle.lane_shots.specs.LaneShots.{bytesBy, verdictBy, shiftedShots, ShotRows}
+use Rattle.expand.specs.Expand.{noisyAmong, shotRowOf, Expanded}
 use Rattle.expand.proofs.Noisy.{noisy-none, noisy-one, noisy-less}
 use Rattle.blocks.specs.Blocks.{shotErrors, Assigned}
 use Rattle.blocks.proofs.Assignment.{no-bytes, lane-errors}
@@ -40,35 +40,35 @@ module _ (d n : ℕ) (dim : Dimension d) (ops : List Operation) (good : (k : ℕ
   none i e = no-bytes (startOf tray (first + i)) (lengthAt tray (first + i)) tray e
 
   -- how many are shifted
-  lane-shifted : (k : ℕ) → shiftedBy d n ops clean lanes (k + 1) ≡ shiftedBy d n ops clean lanes k + verdictBy d n ops clean lanes k
-  unfolding shiftedBy
+  lane-shifted : (k : ℕ) → shiftedShots d n ops clean lanes (k + 1) ≡ shiftedShots d n ops clean lanes k + verdictBy d n ops clean lanes k
+  unfolding shiftedShots
   lane-shifted k = rw (add-one k)
 
-  one-more : (k : ℕ) → k < count → shiftedBy d n ops clean lanes (noisyAmong tray first k) ≡ shiftedBy d n ops clean shots k
+  one-more : (k : ℕ) → k < count → shiftedShots d n ops clean lanes (noisyAmong tray first k) ≡ shiftedShots d n ops clean shots k
       → Dec (lengthAt tray (first + k) ≡ 0)
-      → shiftedBy d n ops clean lanes (noisyAmong tray first (suc k)) ≡ shiftedBy d n ops clean shots k + verdictBy d n ops clean shots k
+      → shiftedShots d n ops clean lanes (noisyAmong tray first (suc k)) ≡ shiftedShots d n ops clean shots k + verdictBy d n ops clean shots k
   one-more k l before (yes e) =
       let clear : verdictBy d n ops clean shots k ≡ 0 =
       ap (λ (E : List WeylError). verdictOf d n (finalFrame d n ops E (noFrame n)) (clean .rows)) (none k e) ∙ final-clean d n dim ops good (clean .rows) in
-      ap (shiftedBy d n ops clean lanes) (noisy-none tray first k e) ∙ omega (arith, before, clear)
+      ap (shiftedShots d n ops clean lanes) (noisy-none tray first k e) ∙ omega (arith, before, clear)
   one-more k l before (no e) =
       let same : verdictBy d n ops clean lanes (noisyAmong tray first k) ≡ verdictBy d n ops clean shots k =
       ap (λ (E : List WeylError). verdictOf d n (finalFrame d n ops E (noFrame n)) (clean .rows)) (lane-errors h k l e) in
-      ap (shiftedBy d n ops clean lanes) (noisy-one tray first k e) ∙ omega (arith, lane-shifted (noisyAmong tray first k), before, same)
+      ap (shiftedShots d n ops clean lanes) (noisy-one tray first k e) ∙ omega (arith, lane-shifted (noisyAmong tray first k), before, same)
 
-  shifted : (k : ℕ) → k ≤ count → shiftedBy d n ops clean lanes (noisyAmong tray first k) ≡ shiftedBy d n ops clean shots k
-  unfolding noisyAmong shiftedBy
+  shifted : (k : ℕ) → k ≤ count → shiftedShots d n ops clean lanes (noisyAmong tray first k) ≡ shiftedShots d n ops clean shots k
+  unfolding noisyAmong shiftedShots
   shifted zero l = refl
   shifted (suc k) l = one-more k (omega arith) (shifted k (omega arith)) (ℕ-discrete (lengthAt tray (first + k)) 0)
 
-  pub shifted-all : shiftedBy d n ops clean lanes (noisyAmong tray first count) ≡ shiftedBy d n ops clean shots count
+  pub shifted-all : shiftedShots d n ops clean lanes (noisyAmong tray first count) ≡ shiftedShots d n ops clean shots count
   shifted-all = shifted count (omega arith)
 
   module _ (exact : length (clean .results) ≡ 2 * measured ops (length ops))
       (below : (i : ℕ) → i < measured ops (length ops) → getD (clean .results) (2 * i) 0 < d) (w : ℕ) (out mid out' : List ℕ)
       (a : ShotRows d n ops clean lanes w (noisyAmong tray first count) out mid)
       (x : Expanded tray first (clean .results) w count mid out') where
-    row : (i : ℕ) → i < count → Dec (lengthAt tray (first + i) ≡ 0) → rowOf tray first (clean .results) w mid i ≡ bytesBy d n ops clean shots i
+    row : (i : ℕ) → i < count → Dec (lengthAt tray (first + i) ≡ 0) → shotRowOf tray first (clean .results) w mid i ≡ bytesBy d n ops clean shots i
     row i l (yes e) =
         rw (eq-eqb (lengthAt tray (first + i)) 0 e)
         (sym (clean-alone d n dim ops good clean exact below) ∙ ap (cleanPlus d n ops clean) (sym (none i e)))

@@ -2,12 +2,10 @@
 ghost use mathlib.Core.Path.{_≡_};
 ghost use Prim.Native.Nat.{_+_, _*_, _<_, _≤_};
 ghost use lib.ListN.{length};
-ghost use Rattle.book.specs.Decoded.{operationsOf};
 ghost use Rattle.tray.specs.Tray.{shotsIn, startOf};
-ghost use Rattle.expand.specs.Expand.{noisyAmong};
-ghost use Rattle.lane_shots.specs.LaneShots.{blank, Fits, cleanEnd, shiftedBy, ShotRows};
-ghost use Rattle.blocks.specs.Blocks.{shotErrors, Assigned, Lies, Loaded, Filled};
-use entries::word;
+ghost use Rattle.lane_shots.specs.LaneShots.{blank, CleanShots};
+ghost use Rattle.blocks.specs.Blocks.{Assigned, InTray, TrayErrors, BlockShots, RowsFrom, shiftedFrom, TrayFilled, shiftedInTray};
+use book_entries::word;
 
 // How many shots a block has, how many of them have errors, and where the next shot's body begins.
 pub struct Extent {
@@ -28,15 +26,12 @@ fn assign(
 ) -> Extent
     requires { ⌜ (now starts ≡ blank 256)
         × (now sizes ≡ blank 256)
-        × Lies (now tray)
-        × (shotsIn (now tray) ≤ 4096)
+        × InTray (now tray)
         × (first < shotsIn (now tray))
         × (start ≡ startOf (now tray) first) ⌝ }
     ensures { λ r. ⌜ Assigned (now (tray .entry)) first (r .count) (now (starts .exit)) (now (sizes .exit))
         × (0 < r .count)
-        × (first + r .count ≤ shotsIn (now (tray .entry)))
-        × (r .noisy ≡ noisyAmong (now (tray .entry)) first (r .count))
-        × (r .noisy ≤ 256)
+        × BlockShots (now (tray .entry)) first (r .count) (r .noisy)
         × (r .next ≡ startOf (now (tray .entry)) (first + r .count)) ⌝ }
 {
     let left = word(tray, 0) - first;
@@ -74,15 +69,13 @@ fn fill_rows(
     d: u8,
     n: usize,
 ) -> usize
-    requires { ⌜ Loaded d n (now tray)
+    requires { ⌜ TrayErrors d n (now tray)
         × Assigned (now tray) first count (now starts) (now sizes)
-        × Fits d n (now ops) (now clean) (now t) w
-        × (first + count ≤ shotsIn (now tray))
-        × (noisy ≡ noisyAmong (now tray) first count)
-        × (noisy ≤ 256)
+        × CleanShots d n (now ops) (now clean) (now t) w
+        × BlockShots (now tray) first count noisy
         × (count * w ≤ length (now out)) ⌝ }
-    ensures { λ r. ⌜ ShotRows d n (operationsOf d n (now (ops .entry))) (cleanEnd (now (t .entry)) (now (clean .entry))) (λ i. shotErrors (now (tray .entry)) (first + i)) w count (now (out .entry)) (now (out .exit))
-        × (r ≡ shiftedBy d n (operationsOf d n (now (ops .entry))) (cleanEnd (now (t .entry)) (now (clean .entry))) (λ i. shotErrors (now (tray .entry)) (first + i)) count) ⌝ }
+    ensures { λ r. ⌜ RowsFrom d n (now (ops .entry)) (now (clean .entry)) (now (t .entry)) (now (tray .entry)) first w count (now (out .entry)) (now (out .exit))
+        × (r ≡ shiftedFrom d n (now (ops .entry)) (now (clean .entry)) (now (t .entry)) (now (tray .entry)) first count) ⌝ }
 {
     let shifted = lane_shots::fill(out, tray, starts, sizes, ops, clean, t, w, noisy, d, n);
     expand::expand(out, tray, clean, w, first, count, noisy);
@@ -109,17 +102,17 @@ fn fill_block(
     d: u8,
     n: usize,
 ) -> Advance
-    requires { ⌜ Loaded d n (now tray)
-        × Fits d n (now ops) (now clean) (now t) w
+    requires { ⌜ TrayErrors d n (now tray)
+        × CleanShots d n (now ops) (now clean) (now t) w
         × (first < shotsIn (now tray))
         × (start ≡ startOf (now tray) first)
         × (shotsIn (now tray) * w ≤ length (now out)) ⌝ }
-    ensures { λ r. ⌜ Filled d n (operationsOf d n (now (ops .entry))) (cleanEnd (now (t .entry)) (now (clean .entry))) (shotErrors (now (tray .entry))) w first (r .next) (now (out .entry)) (now (out .exit))
+    ensures { λ r. ⌜ TrayFilled d n (now (ops .entry)) (now (clean .entry)) (now (t .entry)) (now (tray .entry)) w first (r .next) (now (out .entry)) (now (out .exit))
         × (first < r .next)
         × (r .next ≤ shotsIn (now (tray .entry)))
         × (r .start ≡ startOf (now (tray .entry)) (r .next))
-        × (shiftedBy d n (operationsOf d n (now (ops .entry))) (cleanEnd (now (t .entry)) (now (clean .entry))) (shotErrors (now (tray .entry))) (r .next)
-        ≡ shiftedBy d n (operationsOf d n (now (ops .entry))) (cleanEnd (now (t .entry)) (now (clean .entry))) (shotErrors (now (tray .entry))) first + r .shifted) ⌝ }
+        × (shiftedInTray d n (now (ops .entry)) (now (clean .entry)) (now (t .entry)) (now (tray .entry)) (r .next)
+        ≡ shiftedInTray d n (now (ops .entry)) (now (clean .entry)) (now (t .entry)) (now (tray .entry)) first + r .shifted) ⌝ }
 {
     let mut starts = [0usize; 256];
     let mut sizes = [0usize; 256];
@@ -161,11 +154,11 @@ pub fn fill(
     d: u8,
     n: usize,
 ) -> usize
-    requires { ⌜ Loaded d n (now tray)
-        × Fits d n (now ops) (now clean) (now t) w
+    requires { ⌜ TrayErrors d n (now tray)
+        × CleanShots d n (now ops) (now clean) (now t) w
         × (shotsIn (now tray) * w ≤ length (now out)) ⌝ }
-    ensures { λ r. ⌜ Filled d n (operationsOf d n (now (ops .entry))) (cleanEnd (now (t .entry)) (now (clean .entry))) (shotErrors (now (tray .entry))) w 0 (shotsIn (now (tray .entry))) (now (out .entry)) (now (out .exit))
-        × (r ≡ shiftedBy d n (operationsOf d n (now (ops .entry))) (cleanEnd (now (t .entry)) (now (clean .entry))) (shotErrors (now (tray .entry))) (shotsIn (now (tray .entry)))) ⌝ }
+    ensures { λ r. ⌜ TrayFilled d n (now (ops .entry)) (now (clean .entry)) (now (t .entry)) (now (tray .entry)) w 0 (shotsIn (now (tray .entry))) (now (out .entry)) (now (out .exit))
+        × (r ≡ shiftedInTray d n (now (ops .entry)) (now (clean .entry)) (now (t .entry)) (now (tray .entry)) (shotsIn (now (tray .entry)))) ⌝ }
 {
     let shots = word(tray, 0);
     let mut start = 2 + 2 * shots;

@@ -12,34 +12,34 @@ use borrow.Author.Tests.{eqb-true, leb-true}
 use Rattle.modular.specs.Dimension.{listed}
 use Rattle.tableau.specs.Tableau.{sized}
 use Rattle.search.specs.declared.Place.the-variants.{Nowhere}
-use Rattle.body.specs.Body.{lengthFits, Told, accepted, readBodies}
+use Rattle.book_body.specs.Body.{lengthFits, ReaderAnswer, accepted, readBodies}
 use Rattle.search.proofs.Search.{met, some-place}
-use Rattle.body.proofs.Sound.{NoRefusal, nowhere}
-use Rattle.book.specs.Book.{headed, dimensionOf, quditsOf, offsetOf, lengthOf, endOf, partOf, entryFits, badContents, readBook, ofKind, bodyOf}
+use Rattle.book_body.proofs.Sound.{NoRefusal, nowhere}
+use Rattle.book.specs.Book.{headerFits, dimensionOf, quditsOf, operationsEntry, errorsEntry, choicesEntry, offsetOf, lengthOf, endOf, partOf, entryFits, badContents, readBook, ofKind, bodyOf}
 
-pub record Passed (s : List ℕ) (t : Told) : Type 0 where
-  pub head : headed s ≡ true
+pub record Passed (s : List ℕ) (t : ReaderAnswer) : Type 0 where
+  pub head : headerFits s ≡ true
   pub dimension : listed (dimensionOf s) ≡ true
   pub qudits : sized (quditsOf s) ≡ true
   pub contents : badContents s ≡ Nowhere
-  pub bodies : readBodies (dimensionOf s) (quditsOf s) (partOf s 4) (partOf s 10) (partOf s 16) ≡ t
+  pub bodies : readBodies (dimensionOf s) (quditsOf s) (partOf s operationsEntry) (partOf s errorsEntry) (partOf s choicesEntry) ≡ t
 
-pub all-passed : {t : Told} (s : List ℕ) → NoRefusal t → readBook s ≡ t → Passed s t
+pub all-passed : {t : ReaderAnswer} (s : List ℕ) → NoRefusal t → readBook s ≡ t → Passed s t
 unfolding readBook
 all-passed s good e =
-    let p1 = met (headed s) (good 1 0) e in
+    let p1 = met (headerFits s) (good 1 0) e in
     let p2 = met (listed (dimensionOf s)) (good 2 0) (p1 .1) in
     let p3 = met (sized (quditsOf s)) (good 3 0) (p2 .1) in
     let p4 = nowhere 4 (badContents s) _ good (p3 .1) in
     record { head = p1 .0; dimension = p2 .0; qudits = p3 .0; contents = p4 .0; bodies = p4 .1 }
 
--- a headed book has at least 22 bytes; byte 0 is 81 and byte 3 is 3
-pub head-room : (s : List ℕ) → headed s ≡ true → 22 ≤ length s
-unfolding headed
+-- a book whose header fits has at least 22 bytes; byte 0 is 81 and byte 3 is 3
+pub head-room : (s : List ℕ) → headerFits s ≡ true → 22 ≤ length s
+unfolding headerFits
 head-room s e = leb-true _ _ (and-eq-true-iff (leb 22 (length s)) _ .0 e .0)
 
-pub head-bytes : (s : List ℕ) → headed s ≡ true → (getD s 0 0 ≡ 81) × (getD s 3 0 ≡ 3)
-unfolding headed
+pub head-bytes : (s : List ℕ) → headerFits s ≡ true → (getD s 0 0 ≡ 81) × (getD s 3 0 ≡ 3)
+unfolding headerFits
 head-bytes s e =
     let b = and-eq-true-iff (eqb (getD s 0 0) 81) _ .0 (and-eq-true-iff (leb 22 (length s)) _ .0 e .1) in
     (eqb-true _ _ (b .0), eqb-true _ _ (b .1))
@@ -60,34 +60,34 @@ fits s at kind start size most e =
     record { kind-byte = eqb-true _ _ (e1 .0); zero-byte = eqb-true _ _ (e2 .0); offset = eqb-true _ _ (e3 .0); whole = e3 .1 }
 
 -- each body begins where the last one ended, and the book ends with the third
-pub record Laid (s : List ℕ) : Type 0 where
-  pub first : ContentsEntry s 4 1 22 4 4096
-  pub second : ContentsEntry s 10 2 (endOf s 4) 5 2048
-  pub third : ContentsEntry s 16 3 (endOf s 10) 1 4096
-  pub ends : endOf s 16 ≡ length s
+pub record ContentsLaid (s : List ℕ) : Type 0 where
+  pub first : ContentsEntry s operationsEntry 1 22 4 4096
+  pub second : ContentsEntry s errorsEntry 2 (endOf s operationsEntry) 5 2048
+  pub third : ContentsEntry s choicesEntry 3 (endOf s errorsEntry) 1 4096
+  pub ends : endOf s choicesEntry ≡ length s
 
-pub laid : (s : List ℕ) → badContents s ≡ Nowhere → Laid s
+pub laid : (s : List ℕ) → badContents s ≡ Nowhere → ContentsLaid s
 unfolding badContents
 laid s e =
-    let m0 = met (entryFits s 4 1 22 4 4096) some-place e in
-    let m1 = met (entryFits s 10 2 (endOf s 4) 5 2048) some-place (m0 .1) in
-    let m2 = met (entryFits s 16 3 (endOf s 10) 1 4096) some-place (m1 .1) in
-    let m3 = met (eqb (endOf s 16) (length s)) some-place (m2 .1) in
+    let m0 = met (entryFits s operationsEntry 1 22 4 4096) some-place e in
+    let m1 = met (entryFits s errorsEntry 2 (endOf s operationsEntry) 5 2048) some-place (m0 .1) in
+    let m2 = met (entryFits s choicesEntry 3 (endOf s errorsEntry) 1 4096) some-place (m1 .1) in
+    let m3 = met (eqb (endOf s choicesEntry) (length s)) some-place (m2 .1) in
     record {
-      first = fits s 4 1 22 4 4096 (m0 .0);
-      second = fits s 10 2 (endOf s 4) 5 2048 (m1 .0);
-      third = fits s 16 3 (endOf s 10) 1 4096 (m2 .0);
+      first = fits s operationsEntry 1 22 4 4096 (m0 .0);
+      second = fits s errorsEntry 2 (endOf s operationsEntry) 5 2048 (m1 .0);
+      third = fits s choicesEntry 3 (endOf s errorsEntry) 1 4096 (m2 .0);
       ends = eqb-true _ _ (m3 .0);
     }
 
 -- the header and the bodies lie within the book
 pub record Inside (s : List ℕ) : Type 0 where
   pub room : 22 ≤ length s
-  pub first : endOf s 4 ≤ length s
-  pub second : endOf s 10 ≤ length s
-  pub third : endOf s 16 ≤ length s
+  pub first : endOf s operationsEntry ≤ length s
+  pub second : endOf s errorsEntry ≤ length s
+  pub third : endOf s choicesEntry ≤ length s
 
-pub inside : (s : List ℕ) → headed s ≡ true → badContents s ≡ Nowhere → Inside s
+pub inside : (s : List ℕ) → headerFits s ≡ true → badContents s ≡ Nowhere → Inside s
 inside s h e = let l = laid s e in record { room = head-room s h; first = omega arith; second = omega arith; third = omega arith }
 
 -- a body that lies within the book has its length

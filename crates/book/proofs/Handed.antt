@@ -8,12 +8,12 @@ use lib.ListN.{length}
 use Rattle.modular.specs.Dimension.{listed}
 use Rattle.tableau.proofs.Sized.{sized-most}
 use Rattle.circuit.specs.Circuit.{measured, Accepted}
-use Rattle.body.specs.declared.Numbers.{Numbers}
-use Rattle.body.specs.declared.Reading.{Reading}
-use Rattle.body.specs.declared.Reading.the-variants.{Accepted as Taken}
-use Rattle.body.specs.Body.{accepted, told}
-use Rattle.body.proofs.Sound.{no-refusal}
-use Rattle.book.specs.Book.{partOf, readBook, bodyOf}
+use Rattle.book_body.specs.declared.Numbers.{Numbers}
+use Rattle.book_body.specs.declared.Reading.{Reading}
+use Rattle.book_body.specs.declared.Reading.the-variants.{Accepted as Taken}
+use Rattle.book_body.specs.Body.{accepted, answerOf}
+use Rattle.book_body.proofs.Sound.{no-refusal}
+use Rattle.book.specs.Book.{operationsEntry, errorsEntry, choicesEntry, partOf, readBook, bodyOf}
 use Rattle.book.specs.Decoded.{operationsOf, errorsOf, measurementsIn, Bodies}
 use Rattle.book.proofs.Contents.{all-passed, Inside, inside, by-kind}
 use Rattle.book.proofs.Meaning.{accepted-means}
@@ -25,16 +25,16 @@ pub record Handed (s : List ℕ) (d n choices : ℕ) : Type 0 where
   pub dimension : listed d ≡ true
   pub qudits : n ≤ 64
   pub bodies : Inside s
-  pub first : bodyOf s 1 ≡ partOf s 4
-  pub second : bodyOf s 2 ≡ partOf s 10
-  pub third : bodyOf s 3 ≡ partOf s 16
-  pub lists : Accepted d n (operationsOf d n (partOf s 4)) (errorsOf (partOf s 10)) (partOf s 16)
+  pub first : bodyOf s 1 ≡ partOf s operationsEntry
+  pub second : bodyOf s 2 ≡ partOf s errorsEntry
+  pub third : bodyOf s 3 ≡ partOf s choicesEntry
+  pub lists : Accepted d n (operationsOf d n (partOf s operationsEntry)) (errorsOf (partOf s errorsEntry)) (partOf s choicesEntry)
   pub measurements : measurementsIn s d n ≡ choices
-  pub room : length (partOf s 16) ≡ choices
+  pub room : length (partOf s choicesEntry) ≡ choices
 
-pub handed : (s : List ℕ) {reading : Reading} {b : Numbers} → told reading ≡ readBook s → reading ≡ Taken b → Handed s (b .d) (b .n) (b .choices)
+pub handed : (s : List ℕ) {reading : Reading} {b : Numbers} → answerOf reading ≡ readBook s → reading ≡ Taken b → Handed s (b .d) (b .n) (b .choices)
 handed s {reading} {b} e f =
-    let reads = sym e ∙ ap told f in
+    let reads = sym e ∙ ap answerOf f in
     let m = accepted-means s (b .d) (b .n) (b .operations) (b .errors) (b .choices) reads in
     let none = no-refusal (b .d) (b .n) (b .operations) (b .errors) (b .choices) in
     let p = all-passed s none reads in
@@ -57,7 +57,7 @@ handed s {reading} {b} e f =
     }
 
 -- the bodies as a run is handed them
-pub bodies-of : (s : List ℕ) {d n choices : ℕ} {ops errors cs : List ℕ} → Handed s d n choices → ops ≡ partOf s 4 → errors ≡ partOf s 10
-    → cs ≡ partOf s 16
+pub bodies-of : (s : List ℕ) {d n choices : ℕ} {ops errors cs : List ℕ} → Handed s d n choices → ops ≡ partOf s operationsEntry → errors ≡ partOf s errorsEntry
+    → cs ≡ partOf s choicesEntry
     → Bodies d n ops errors cs
 bodies-of s g a b c = rw (a, b, c) (record { dimension = g .dimension; qudits = g .qudits; lists = g .lists })

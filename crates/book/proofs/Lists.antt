@@ -11,10 +11,10 @@ use Rattle.operation.specs.declared.Step.{Step}
 use Rattle.operation.specs.Operation.{allowed}
 use Rattle.operation.proofs.Operands.{distinct-facts}
 use Rattle.circuit.specs.Circuit.{opAt, errAt}
-use Rattle.entries.specs.declared.Taken.{Taken}
-use Rattle.entries.specs.declared.Taken.the-variants.{Next, Refused}
-use Rattle.entries.specs.Entry.{operationAt, stepOf, errorAt}
-use Rattle.entries.proofs.Steps.{is-step, no-step}
+use Rattle.book_entries.specs.declared.Taken.{Taken}
+use Rattle.book_entries.specs.declared.Taken.the-variants.{Next, Refused}
+use Rattle.book_entries.specs.Entry.{operationAt, stepOf, errorAt}
+use Rattle.book_entries.proofs.Steps.{is-step, no-step}
 use Rattle.book.specs.Decoded.{operationIn, operationOf, operationsOf, errorsOf}
 
 module _ (d n : ℕ) (ops : List ℕ) where

@@ -13,17 +13,17 @@ use Rattle.operation.specs.declared.Operation.{Operation}
 use Rattle.operation.specs.declared.Operation.the-variants.{Fourier, PhaseGate, Sum, Cz, Swap, Multiplier, Measure}
 use Rattle.operation.specs.Operation.{allowed}
 use Rattle.circuit.specs.Circuit.{tally, measured, Accepted}
-use Rattle.entries.specs.declared.Decoded.{Decoded}
-use Rattle.entries.specs.declared.Decoded.the-variants.{Good, Bad}
-use Rattle.entries.specs.Entry.{bytesOf, operationAt}
-use Rattle.body.specs.Body.{isGood, measurements, Told, refused, accepted}
-use Rattle.body.proofs.Sound.{no-refusal, Sound, all-sound, each-operation, one-each, each-choice}
-use Rattle.entries.proofs.Spelling.{spelled}
-use Rattle.book.specs.Book.{dimensionOf, quditsOf, partOf, bodyOf}
+use Rattle.book_entries.specs.declared.Decoded.{Decoded}
+use Rattle.book_entries.specs.declared.Decoded.the-variants.{Good, Bad}
+use Rattle.book_entries.specs.Entry.{bytesOf, operationAt}
+use Rattle.book_body.specs.Body.{isGood, measurements, ReaderAnswer, refused, accepted}
+use Rattle.book_body.proofs.Sound.{no-refusal, Sound, all-sound, each-operation, one-each, each-choice}
+use Rattle.book_entries.proofs.Decoding.{decoded-exactly}
+use Rattle.book.specs.Book.{dimensionOf, quditsOf, operationsEntry, errorsEntry, choicesEntry, partOf, bodyOf}
 use Rattle.book.specs.Decoded.{operationIn, operationOf, operationsOf, errorsOf, Means, AcceptedMeans}
 use Rattle.book.proofs.Contents.{all-passed, by-kind}
 use Rattle.book.proofs.Lists.{op-count, op-at, error-count}
-use Rattle.book.proofs.Errors.{strikes, places}
+use Rattle.book.proofs.GoodErrors.{errors-in-order, places}
 
 is-in : (x : Decoded) → isGood x ≡ true → x ≡ Good (operationIn x)
 is-in (Good op) e = refl
@@ -44,11 +44,11 @@ code-tally (Measure q) = refl
 abbrev entryOf : List ℕ → ℕ → List ℕ
 entryOf os k = getD os (4 * k) 0 ∷ getD os (4 * k + 1) 0 ∷ getD os (4 * k + 2) 0 ∷ getD os (4 * k + 3) 0 ∷ []
 
-module _ {d n : ℕ} {os es cs : List ℕ} {t : Told} (sound : Sound d n os es cs t) where
+module _ {d n : ℕ} {os es cs : List ℕ} {t : ReaderAnswer} (sound : Sound d n os es cs t) where
   -- the operations
   -- entry k is allowed, and its bytes are its operation's
   entry : (k : ℕ) → k < length os / 4 → (allowed d n (operationOf d n os k) ≡ true) × (entryOf os k ≡ bytesOf (operationOf d n os k))
-  entry k h = spelled d n _ _ _ _ (operationOf d n os k) .0 (is-in (operationAt d n os k) (each-operation sound k h))
+  entry k h = decoded-exactly d n _ _ _ _ (operationOf d n os k) .0 (is-in (operationAt d n os k) (each-operation sound k h))
 
   op-tally : (k : ℕ) → k < length os / 4 → tally (operationOf d n os k) ≡ cond (eqb (getD os (4 * k) 0) 6) 1 0
   op-tally k h = code-tally (operationOf d n os k) ∙ ap (λ (bytes : List ℕ). cond (eqb (getD bytes 0 0) 6) 1 0) (sym (entry k h .1))
@@ -62,14 +62,14 @@ module _ {d n : ℕ} {os es cs : List ℕ} {t : Told} (sound : Sound d n os es c
   lists =
       record {
         operations = λ k h. let l : k < length os / 4 = rw op-count at h in rw (op-at d n os k l) (entry k l .0);
-        strikes = strikes d n (length os / 4) es (sound .errors);
+        errors-in-order = errors-in-order d n (length os / 4) es (sound .errors);
         places = λ j h. rw op-count (places d n (length os / 4) es (sound .errors) j h);
         one-each = rw op-count (one-each sound ∙ sym (op-measured _ (le-refl _)));
         below = λ j h. ltb-true _ _ (each-choice sound j h);
       }
 
 -- where the answer has the numbers, they mean this
-abbrev Meant : List ℕ → Told → Type 0
+abbrev Meant : List ℕ → ReaderAnswer → Type 0
 Meant s (refused number place) = Unit {0}
 Meant s (accepted d n operations errors choices) = Means s d n operations errors choices
 
@@ -77,10 +77,10 @@ pub accepted-means : AcceptedMeans
 accepted-means s d n operations errors choices e =
     let good = no-refusal d n operations errors choices in
     let p = all-passed s good e in
-    let sound = all-sound (dimensionOf s) (quditsOf s) (partOf s 4) (partOf s 10) (partOf s 16) good (p .bodies) in
-    let b1 : bodyOf s 1 ≡ partOf s 4 = by-kind s 1 e in
-    let b2 : bodyOf s 2 ≡ partOf s 10 = by-kind s 2 e in
-    let b3 : bodyOf s 3 ≡ partOf s 16 = by-kind s 3 e in
+    let sound = all-sound (dimensionOf s) (quditsOf s) (partOf s operationsEntry) (partOf s errorsEntry) (partOf s choicesEntry) good (p .bodies) in
+    let b1 : bodyOf s 1 ≡ partOf s operationsEntry = by-kind s 1 e in
+    let b2 : bodyOf s 2 ≡ partOf s errorsEntry = by-kind s 2 e in
+    let b3 : bodyOf s 3 ≡ partOf s choicesEntry = by-kind s 3 e in
     subst (Meant s) (sound .numbers)
     (record {
       dimension = refl;

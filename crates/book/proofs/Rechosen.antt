@@ -10,11 +10,11 @@ use lib.Seq.{length-take-le, take-length, getD-take, getD-drop, ext-getD, take-a
 use borrow.Author.Tests.{lt-ltb, eq-eqb}
 use Rattle.search.specs.declared.Place.the-variants.{Nowhere}
 use Rattle.search.proofs.Search.{none-fails}
-use Rattle.entries.specs.Entry.{word}
-use Rattle.body.specs.Body.{measurements, goodChoice, badChoice, Told, accepted, readBodies}
-use Rattle.body.proofs.Sound.{no-refusal, Sound, all-sound, one-each}
-use Rattle.book.specs.Book.{headed, dimensionOf, quditsOf, offsetOf, lengthOf, endOf, partOf, entryFits, badContents, readBook, bodyOf}
-use Rattle.book.proofs.Contents.{Passed, all-passed, Laid, laid, part-length, by-kind}
+use Rattle.book_entries.specs.Entry.{word}
+use Rattle.book_body.specs.Body.{measurements, goodChoice, badChoice, ReaderAnswer, accepted, readBodies}
+use Rattle.book_body.proofs.Sound.{no-refusal, Sound, all-sound, one-each}
+use Rattle.book.specs.Book.{headerFits, dimensionOf, quditsOf, operationsEntry, errorsEntry, choicesEntry, offsetOf, lengthOf, endOf, partOf, entryFits, badContents, readBook, bodyOf}
+use Rattle.book.proofs.Contents.{Passed, all-passed, ContentsLaid, laid, part-length, by-kind}
 use Rattle.book.proofs.Meaning.{accepted-means}
 
 -- two books of one length, alike in their first m bytes
@@ -50,25 +50,25 @@ module _ {m : ℕ} {s u : List ℕ} (same : Begin m s u) where
     body-same e = rw (word-same (at + 2) (omega arith), word-same (at + 4) (omega arith)) (part-same (offsetOf s at) (lengthOf s at) e)
 
   module _ (room : 22 ≤ m) where
-    head-same : headed u ≡ headed s
-    unfolding headed
+    head-same : headerFits u ≡ headerFits s
+    unfolding headerFits
     head-same = rw (same .len, same .bytes 0 (omega arith), same .bytes 3 (omega arith))
 
     contents-same : badContents u ≡ badContents s
     unfolding badContents
     contents-same =
         rw (
-          entry-same 4 (omega arith) 1 22 4 4096,
-          end-same 4 (omega arith),
-          entry-same 10 (omega arith) 2 (endOf s 4) 5 2048,
-          end-same 10 (omega arith),
-          entry-same 16 (omega arith) 3 (endOf s 10) 1 4096,
-          end-same 16 (omega arith),
+          entry-same operationsEntry (omega arith) 1 22 4 4096,
+          end-same operationsEntry (omega arith),
+          entry-same errorsEntry (omega arith) 2 (endOf s operationsEntry) 5 2048,
+          end-same errorsEntry (omega arith),
+          entry-same choicesEntry (omega arith) 3 (endOf s errorsEntry) 1 4096,
+          end-same choicesEntry (omega arith),
           same .len,
         )
 
     -- where the first passed 1 to 4, so does the second
-    read-same : {t : Told} → Passed s t → readBook u ≡ readBodies (dimensionOf s) (quditsOf s) (partOf u 4) (partOf u 10) (partOf u 16)
+    read-same : {t : ReaderAnswer} → Passed s t → readBook u ≡ readBodies (dimensionOf s) (quditsOf s) (partOf u operationsEntry) (partOf u errorsEntry) (partOf u choicesEntry)
     unfolding readBook
     read-same p =
         rw
@@ -76,15 +76,15 @@ module _ {m : ℕ} {s u : List ℕ} (same : Begin m s u) where
 
 -- The choices are the last body.
 abbrev pub withChoices : List ℕ → List ℕ → List ℕ
-withChoices s c = take (offsetOf s 16) s ++ c
+withChoices s c = take (offsetOf s choicesEntry) s ++ c
 
-pub record Rechosen (s c : List ℕ) (t : Told) : Type 0 where
+pub record Rechosen (s c : List ℕ) (t : ReaderAnswer) : Type 0 where
   pub accepts : readBook (withChoices s c) ≡ t
   pub operations : bodyOf (withChoices s c) 1 ≡ bodyOf s 1
   pub errors : bodyOf (withChoices s c) 2 ≡ bodyOf s 2
   pub choices : bodyOf (withChoices s c) 3 ≡ c
   pub len : length (withChoices s c) ≡ length s
-  pub start : take (offsetOf s 16) (withChoices s c) ≡ take (offsetOf s 16) s
+  pub start : take (offsetOf s choicesEntry) (withChoices s c) ≡ take (offsetOf s choicesEntry) s
 
 module _ {d n operations errors choices : ℕ} (s c : List ℕ) (e : readBook s ≡ accepted d n operations errors choices)
     (count : length c ≡ length (bodyOf s 3)) (below : (j : ℕ) → j < length c → getD c j 0 < d) where
@@ -94,58 +94,58 @@ module _ {d n operations errors choices : ℕ} (s c : List ℕ) (e : readBook s 
   passed : Passed s (accepted d n operations errors choices)
   passed = all-passed s (no-refusal d n operations errors choices) e
 
-  lies : Laid s
+  lies : ContentsLaid s
   lies = laid s (passed .contents)
 
-  sound : Sound (dimensionOf s) (quditsOf s) (partOf s 4) (partOf s 10) (partOf s 16) (accepted d n operations errors choices)
+  sound : Sound (dimensionOf s) (quditsOf s) (partOf s operationsEntry) (partOf s errorsEntry) (partOf s choicesEntry) (accepted d n operations errors choices)
   sound = all-sound _ _ _ _ _ (no-refusal d n operations errors choices) (passed .bodies)
 
   -- the bytes before the choices, and as many choices
-  kept : length (take (offsetOf s 16) s) ≡ offsetOf s 16
-  kept = length-take-le (offsetOf s 16) s (omega (arith, lies .ends))
+  kept : length (take (offsetOf s choicesEntry) s) ≡ offsetOf s choicesEntry
+  kept = length-take-le (offsetOf s choicesEntry) s (omega (arith, lies .ends))
 
-  as-many : length c ≡ length (partOf s 16)
+  as-many : length c ≡ length (partOf s choicesEntry)
   as-many = count ∙ ap length (by-kind s 3 e)
 
-  to-end : length c ≡ lengthOf s 16
-  to-end = as-many ∙ part-length s 16 (omega (arith, lies .ends))
+  to-end : length c ≡ lengthOf s choicesEntry
+  to-end = as-many ∙ part-length s choicesEntry (omega (arith, lies .ends))
 
-  begins : Begin (offsetOf s 16) s u
+  begins : Begin (offsetOf s choicesEntry) s u
   begins =
       record {
-        len = length-append (take (offsetOf s 16) s) c ∙ omega (arith, kept, to-end, lies .ends);
-        bytes = λ i l. List·getD-append (take (offsetOf s 16) s) c 0 i (omega (arith, kept)) ∙ getD-take (offsetOf s 16) s i 0 l;
+        len = length-append (take (offsetOf s choicesEntry) s) c ∙ omega (arith, kept, to-end, lies .ends);
+        bytes = λ i l. List·getD-append (take (offsetOf s choicesEntry) s) c 0 i (omega (arith, kept)) ∙ getD-take (offsetOf s choicesEntry) s i 0 l;
       }
 
-  room : 22 ≤ offsetOf s 16
+  room : 22 ≤ offsetOf s choicesEntry
   room = omega (arith, lies .first .offset, lies .second .offset, lies .third .offset)
 
   -- the three bodies
-  operations-part : partOf u 4 ≡ partOf s 4
-  operations-part = body-same begins 4 (omega (arith, room)) (omega (arith, lies .second .offset, lies .third .offset))
+  operations-part : partOf u operationsEntry ≡ partOf s operationsEntry
+  operations-part = body-same begins operationsEntry (omega (arith, room)) (omega (arith, lies .second .offset, lies .third .offset))
 
-  errors-part : partOf u 10 ≡ partOf s 10
-  errors-part = body-same begins 10 (omega (arith, room)) (omega (arith, lies .third .offset))
+  errors-part : partOf u errorsEntry ≡ partOf s errorsEntry
+  errors-part = body-same begins errorsEntry (omega (arith, room)) (omega (arith, lies .third .offset))
 
-  choices-part : partOf u 16 ≡ c
+  choices-part : partOf u choicesEntry ≡ c
   choices-part =
       rw (
         word-same begins 18 (omega (arith, room)),
         word-same begins 20 (omega (arith, room)),
-        drop-at (take (offsetOf s 16) s) c (offsetOf s 16) kept,
+        drop-at (take (offsetOf s choicesEntry) s) c (offsetOf s choicesEntry) kept,
         ← to-end,
       )
       (take-length c)
 
-  good : badChoice (dimensionOf s) (measurements (partOf s 4) (length (partOf s 4) / 4)) c ≡ Nowhere
+  good : badChoice (dimensionOf s) (measurements (partOf s operationsEntry) (length (partOf s operationsEntry) / 4)) c ≡ Nowhere
   unfolding badChoice
   good =
       let m = accepted-means s d n operations errors choices e in
       rw
-      (eq-eqb (length c) (measurements (partOf s 4) (length (partOf s 4) / 4)) (as-many ∙ one-each sound))
+      (eq-eqb (length c) (measurements (partOf s operationsEntry) (length (partOf s operationsEntry) / 4)) (as-many ∙ one-each sound))
       (none-fails (goodChoice (dimensionOf s) c) (length c) (λ j l. rw (m .dimension) (lt-ltb (getD c j 0) d (below j l))))
 
-  bodies : readBodies (dimensionOf s) (quditsOf s) (partOf s 4) (partOf s 10) c ≡ accepted d n operations errors choices
+  bodies : readBodies (dimensionOf s) (quditsOf s) (partOf s operationsEntry) (partOf s errorsEntry) c ≡ accepted d n operations errors choices
   unfolding readBodies
   bodies = rw (sound .operations, sound .errors, good, as-many) (sound .numbers)
 
@@ -160,5 +160,5 @@ module _ {d n operations errors choices : ℕ} (s c : List ℕ) (e : readBook s 
         errors = by-kind u 2 read ∙ errors-part ∙ sym (by-kind s 2 e);
         choices = by-kind u 3 read ∙ choices-part;
         len = begins .len;
-        start = take-at (take (offsetOf s 16) s) c (offsetOf s 16) kept;
+        start = take-at (take (offsetOf s choicesEntry) s) c (offsetOf s choicesEntry) kept;
       }

@@ -9,12 +9,12 @@ use Rattle.tableau.specs.Tableau.{sized}
 use Rattle.search.specs.declared.Place.{Place}
 use Rattle.search.specs.declared.Place.the-variants.{At, Nowhere}
 use Rattle.search.specs.Search.{unless}
-use Rattle.entries.specs.Entry.{word}
-use Rattle.body.specs.Body.{lengthFits, Told, refused, accepted, at, readBodies}
+use Rattle.book_entries.specs.Entry.{word}
+use Rattle.book_body.specs.Body.{lengthFits, ReaderAnswer, refused, accepted, refuseAt, readBodies}
 
 -- Byte 0 is 81, then d, n, 3.
-unfoldable pub headed : List ℕ → Bool
-headed s = leb 22 (length s) && (eqb (getD s 0 0) 81 && eqb (getD s 3 0) 3)
+unfoldable pub headerFits : List ℕ → Bool
+headerFits s = leb 22 (length s) && (eqb (getD s 0 0) 81 && eqb (getD s 3 0) 3)
 
 abbrev pub dimensionOf : List ℕ → ℕ
 dimensionOf s = getD s 1 0
@@ -22,8 +22,17 @@ dimensionOf s = getD s 1 0
 abbrev pub quditsOf : List ℕ → ℕ
 quditsOf s = getD s 2 0
 
--- A table of contents of three entries, six bytes each: kind, 0, offset, length (two bytes each, low byte first).
--- Entry e begins at byte 4 + 6e; here `at` is that byte.
+-- A table of contents of three entries, six bytes each: the byte at which each entry begins.
+abbrev pub operationsEntry : ℕ
+operationsEntry = 4
+
+abbrev pub errorsEntry : ℕ
+errorsEntry = 10
+
+abbrev pub choicesEntry : ℕ
+choicesEntry = 16
+
+-- An entry: kind, 0, offset, length (two bytes each, low byte first). Here `at` is the byte at which it begins.
 abbrev pub offsetOf : List ℕ → ℕ → ℕ
 offsetOf s at = word s (at + 2)
 
@@ -44,28 +53,30 @@ entryFits s at kind start size most =
 -- begins at byte 22, each next one where the last ended, and the book ends with the third.
 unfoldable pub badContents : List ℕ → Place
 badContents s =
-    unless (entryFits s 4 1 22 4 4096) (At 0)
-    (unless (entryFits s 10 2 (endOf s 4) 5 2048) (At 1)
-    (unless (entryFits s 16 3 (endOf s 10) 1 4096) (At 2)
-    (unless (eqb (endOf s 16) (length s)) (At 3) Nowhere)))
+    unless (entryFits s operationsEntry 1 22 4 4096) (At 0)
+    (unless (entryFits s errorsEntry 2 (endOf s operationsEntry) 5 2048) (At 1)
+    (unless (entryFits s choicesEntry 3 (endOf s errorsEntry) 1 4096) (At 2)
+    (unless (eqb (endOf s choicesEntry) (length s)) (At 3) Nowhere)))
 
 -- 1: book under 22 bytes, byte 0 not 81, or byte 3 not 3; 2: d not in the list; 3: n outside 1 to 64; then 4 to 7
-unfoldable pub readBook : List ℕ → Told
+unfoldable pub readBook : List ℕ → ReaderAnswer
 readBook s =
-    unless (headed s) (refused 1 0)
+    unless (headerFits s) (refused 1 0)
     (unless (listed (dimensionOf s)) (refused 2 0)
     (unless (sized (quditsOf s)) (refused 3 0)
-    (at 4 (badContents s)
-    (readBodies (dimensionOf s) (quditsOf s) (partOf s 4) (partOf s 10) (partOf s 16)))))
+    (refuseAt 4 (badContents s)
+    (readBodies (dimensionOf s) (quditsOf s) (partOf s operationsEntry) (partOf s errorsEntry) (partOf s choicesEntry)))))
 
 -- A body fetched by kind; for a book refused by 1 to 7, or another kind, the part has length 0.
-abbrev pub ifAccepted : Told → List ℕ → List ℕ
+abbrev pub ifAccepted : ReaderAnswer → List ℕ → List ℕ
 ifAccepted (refused number place) s = []
 ifAccepted (accepted d n operations errors choices) s = s
 
 abbrev pub ofKind : List ℕ → ℕ → List ℕ
 ofKind s kind =
-    cond (eqb kind 1) (partOf s 4) (cond (eqb kind 2) (partOf s 10) (cond (eqb kind 3) (partOf s 16) []))
+    cond (eqb kind 1) (partOf s operationsEntry)
+    (cond (eqb kind 2) (partOf s errorsEntry)
+    (cond (eqb kind 3) (partOf s choicesEntry) []))
 
 unfoldable pub bodyOf : List ℕ → ℕ → List ℕ
 bodyOf s kind = ifAccepted (readBook s) (ofKind s kind)

@@ -11,10 +11,10 @@ use Rattle.operation.specs.declared.Operation.{Operation}
 use Rattle.operation.specs.declared.Operation.the-variants.{Swap}
 use Rattle.operation.specs.declared.WeylError.{WeylError}
 use Rattle.circuit.specs.Circuit.{measured, Accepted}
-use Rattle.entries.specs.declared.Decoded.{Decoded}
-use Rattle.entries.specs.declared.Decoded.the-variants.{Good, Bad}
-use Rattle.entries.specs.Entry.{operationAt, errorAt}
-use Rattle.body.specs.Body.{measurements, accepted}
+use Rattle.book_entries.specs.declared.Decoded.{Decoded}
+use Rattle.book_entries.specs.declared.Decoded.the-variants.{Good, Bad}
+use Rattle.book_entries.specs.Entry.{operationAt, errorAt}
+use Rattle.book_body.specs.Body.{measurements, accepted}
 use Rattle.book.specs.Book.{readBook, dimensionOf, quditsOf, bodyOf}
 
 -- the operation of an entry; for a bad one, one that is never allowed

@@ -1,6 +1,6 @@
 // Reads the example book and books that differ from it, and writes of each the first line of its listing, or its refusal.
 ghost use Prim.Native.Nat.{_<_};
-use body::Reading;
+use book_body::Reading;
 
 // d 3, n 2; Fourier on 0, SUM from 0 to 1, a measurement of each; an error at place 2; two choices.
 fn example() -> [u8; 45] {
@@ -16,13 +16,13 @@ fn report(book: &[u8]) {
     let reading = book::read(book);
     match reading {
         Reading::Accepted(numbers) => {
-            write(b"d ", entries::wide(numbers.d));
+            write(b"d ", casts::byte_as_usize(numbers.d));
             write(b" n ", numbers.n);
             write(b" operations ", numbers.operations);
             write(b" errors ", numbers.errors);
         }
         Reading::Refused { number, place } => {
-            write(b"refused ", entries::wide(number));
+            write(b"refused ", casts::byte_as_usize(number));
             write(b" at ", place);
         }
     }

@@ -2,18 +2,19 @@
 ghost use mathlib.Core.Path.{_≡_};
 ghost use Rattle.layer.specs.Layer.{layerNumber, layerLeaves};
 ghost use Rattle.validity.specs.Validity.{testNumber};
-ghost use Rattle.written.specs.Writer.{writeBook};
-ghost use Rattle.direct.specs.DirectBook.{directBook};
-ghost use Rattle.framed.specs.FrameBook.{frameBook};
+ghost use Rattle.written_book.specs.Writer.{writeBook};
+ghost use Rattle.direct_run.specs.DirectBook.{directLeft, directBook};
+ghost use Rattle.frame_run.specs.FrameBook.{buffersOf, frameLeft, frameBook};
 ghost use Rattle.shots.specs.Shots.{trayBook};
-use framed::FrameAnswer;
-use tableau::Answer;
+use answer::Answer;
+use frame_run::FrameAnswer;
 use tray_run::TrayAnswer;
 
 // Lays the zero tableau of n qudits of dimension d, or refuses by 2, 3 or 8.
 #[no_mangle]
 pub extern "C" fn cagvost_layer(t: &mut [u8], d: usize, n: usize) -> Answer
-    ensures { λ r. ⌜ (r ≡ record { number = layerNumber d n (now (t .entry)); place = 0 }) × (now (t .exit) ≡ layerLeaves d n (now (t .entry))) ⌝ }
+    ensures { λ r. ⌜ (r ≡ record { number = layerNumber d n (now (t .entry)); place = 0 })
+        × (now (t .exit) ≡ layerLeaves d n (now (t .entry))) ⌝ }
 {
     layer::lay(t, d, n)
 }
@@ -45,9 +46,10 @@ pub extern "C" fn cagvost_write(
 // The direct run of a book from the lent tableau.
 #[no_mangle]
 pub extern "C" fn cagvost_direct_run(book: &[u8], t: &mut [u8], results: &mut [u8]) -> Answer
-    ensures { λ r. ⌜ record { number = r .number; place = r .place; tableau = now (t .exit); results = now (results .exit) } ≡ directBook (now (book .entry)) (now (t .entry)) (now (results .entry)) ⌝ }
+    ensures { λ r. ⌜ directLeft r (now (t .exit)) (now (results .exit))
+        ≡ directBook (now (book .entry)) (now (t .entry)) (now (results .entry)) ⌝ }
 {
-    direct::direct_run(book, t, results)
+    direct_run::direct_run(book, t, results)
 }
 
 // The frame run of a book from the lent tableau.
@@ -59,9 +61,10 @@ pub extern "C" fn cagvost_frame_run(
     shifts: &mut [u8],
     frame: &mut [u8],
 ) -> FrameAnswer
-    ensures { λ r. ⌜ record { number = r .number; place = r .place; verdict = r .verdict; left = record { tableau = now (t .exit); results = now (results .exit); shifts = now (shifts .exit); frame = now (frame .exit) } } ≡ frameBook (now (book .entry)) (record { tableau = now (t .entry); results = now (results .entry); shifts = now (shifts .entry); frame = now (frame .entry) }) ⌝ }
+    ensures { λ r. ⌜ frameLeft r (buffersOf (now (t .exit)) (now (results .exit)) (now (shifts .exit)) (now (frame .exit)))
+        ≡ frameBook (now (book .entry)) (buffersOf (now (t .entry)) (now (results .entry)) (now (shifts .entry)) (now (frame .entry))) ⌝ }
 {
-    framed::frame_run(book, t, results, shifts, frame)
+    frame_run::frame_run(book, t, results, shifts, frame)
 }
 
 // The shots of a tray over a book's circuit, each from the lent tableau.

@@ -9,15 +9,15 @@ use Rattle.operation.specs.declared.Operation.the-variants.{Fourier, PhaseGate,
 use Rattle.operation.specs.Gate.{gatePowers, gatePhase, gateRow}
 use Rattle.operation.specs.Error.{errorRow}
 use Rattle.row.specs.Generators.{zWith}
-use Rattle.weyl.specs.Scalar.{scalar}
+use Rattle.row_laws.specs.Scalar.{scalar}
 use Rattle.search.specs.Search.{firstNot}
 use Rattle.tableau.specs.Tableau.{part, put, eachRow}
 use Rattle.layer.specs.Layer.{zeroTableau}
 use Rattle.circuit.specs.Circuit.{measured}
-use Rattle.outcome.specs.Look.{pivotOf, combination, weighted, look}
-use Rattle.outcome.specs.Collapse.{collapseRow, collapse}
-use Rattle.run.specs.Run.{onward, noted}
-use Rattle.run.specs.Direct.{State, strike, directLook, directKind, directStrike, directStep, directRun}
+use Rattle.measurement.specs.Look.{pivotOf, combination, weighted, look}
+use Rattle.measurement.specs.Collapse.{collapseRow, collapse}
+use Rattle.runs.specs.Run.{stepsFrom, withResult}
+use Rattle.runs.specs.Direct.{State, errorsOnRows, directLook, directKind, directErrors, directStep, directRun}
 
 -- ★1 Fourier: (1,1,0) gives (2,1,2).
 fourier : gateRow 3 1 (Fourier 0 1) (1 ∷ 1 ∷ 0 ∷ []) ≡ 2 ∷ 1 ∷ 2 ∷ []
@@ -70,10 +70,10 @@ abbrev start : State
 start = record { rows = zeros; results = 9 ∷ 9 ∷ [] }
 
 certain : directRun 3 1 (Measure 0 ∷ []) [] (2 ∷ []) start ≡ record { rows = zeros; results = 0 ∷ 0 ∷ [] }
-unfolding directRun onward directStep directStrike directKind directLook strike measured noted look pivotOf firstNot weighted combination scalar zeroTableau eachRow part put product power rowOf tab dot
+unfolding directRun stepsFrom directStep directErrors directKind directLook errorsOnRows measured withResult look pivotOf firstNot weighted combination scalar zeroTableau eachRow part put product power rowOf tab dot
 certain = refl
 
 -- ★9 Fourier, then measure with choice 2: free 2, rows (1,0,0) and (0,1,1).
 free : directRun 3 1 (Fourier 0 1 ∷ Measure 0 ∷ []) [] (2 ∷ []) start ≡ record { rows = 1 ∷ 0 ∷ 0 ∷ 0 ∷ 1 ∷ 1 ∷ []; results = 2 ∷ 1 ∷ [] }
-unfolding directRun onward directStep directStrike directKind directLook strike measured noted look pivotOf firstNot collapse collapseRow zWith inverse powerOf zeroTableau eachRow part put product power rowOf tab dot gateRow gatePowers gatePhase
+unfolding directRun stepsFrom directStep directErrors directKind directLook errorsOnRows measured withResult look pivotOf firstNot collapse collapseRow zWith inverse powerOf zeroTableau eachRow part put product power rowOf tab dot gateRow gatePowers gatePhase
 free = refl

@@ -44,15 +44,19 @@ unfoldable pub measured : List Operation → ℕ → ℕ
 measured ops zero = 0
 measured ops (suc k) = measured ops k + tally (opAt ops k)
 
+-- the measurements among all operations
+abbrev pub measurementCount : List Operation → ℕ
+measurementCount ops = measured ops (length ops)
+
 -- Errors as a run takes them: each is allowed, and their places never fall.
-pub record Strikes (d n : ℕ) (errors : List WeylError) : Type 0 where
+pub record ErrorsInOrder (d n : ℕ) (errors : List WeylError) : Type 0 where
   pub each : (j : ℕ) → j < length errors → errorAllowed d n (errAt errors j) ≡ true
   pub in-order : (i j : ℕ) → i ≤ j → j < length errors → errAt errors i .place ≤ errAt errors j .place
 
 -- A book is accepted when none of 1 to 7 refuses it: what 5, 6 and 7 leave.
 pub record Accepted (d n : ℕ) (ops : List Operation) (errors : List WeylError) (choices : List ℕ) : Type 0 where
   pub operations : (k : ℕ) → k < length ops → allowed d n (opAt ops k) ≡ true
-  pub strikes : Strikes d n errors
+  pub errors-in-order : ErrorsInOrder d n errors
   pub places : (j : ℕ) → j < length errors → errAt errors j .place ≤ length ops
-  pub one-each : length choices ≡ measured ops (length ops)
+  pub one-each : length choices ≡ measurementCount ops
   pub below : (j : ℕ) → j < length choices → getD choices j 0 < d

@@ -1,2 +1,1 @@
 pub mod Circuit
-pub mod Reached

@@ -1,18 +1,13 @@
-// Where a run stands in a circuit.
+// Which operations of a circuit are measurements.
 ghost use mathlib.Core.Path.{_≡_};
 ghost use Prim.Native.Nat.{_≤_};
 ghost use Rattle.circuit.specs.Circuit.{tally};
 use operation::Operation;
 
-// The next error entry, and how many measurements were made.
-pub struct Progress {
-    pub entry: usize,
-    pub measurements: usize,
-}
-
 // 1 for a measurement, else 0.
 pub fn tally(operation: Operation) -> usize
-    ensures { λ r. ⌜ (r ≡ tally operation) × (r ≤ 1) ⌝ }
+    ensures { λ r. ⌜ (r ≡ tally operation)
+        × (r ≤ 1) ⌝ }
 {
     match operation {
         Operation::Fourier { q: _, times: _ } => 0,

@@ -9,7 +9,7 @@ use lib.ListN.{length, getD, set, replicate, length-set, length-replicate, List�
 use lib.Seq.{getD-set-same, getD-set-other}
 use Rattle.tableau.specs.Tableau.{Tableau, part}
 use Rattle.tableau.proofs.Parts.{part-at, part-length}
-use Rattle.dots.specs.Dots.{Small}
+use Rattle.dots.specs.Dots.{Small, SmallColumns}
 use Rattle.dots.proofs.Combined.{zero-at}
 use Rattle.columns.specs.Columns.{Laid}
 
@@ -49,6 +49,9 @@ module _ (n : ℕ) (t : List ℕ) where
   -- the places past the rows need nothing
   pub laid-column : (s : ℕ) (c : List ℕ) → Laid n t (128 * s + 2 * n) c → Laid n t (128 * s + 128) c
   laid-column s c h = record { len = h .len; small = h .small; laid = λ a i p q. h .laid a i p (omega arith) }
+
+  pub small-columns : {p from count : ℕ} {c : List ℕ} → Laid n t p c → from ≤ 8192 → count ≤ 128 → SmallColumns c from count
+  small-columns h start rows = record { len = h .len; small = h .small; start = start; rows = rows }
 
 -- part of a row's powers
 pub part-small : (n : ℕ) (t : List ℕ) (s : ℕ) → Tableau 31 n t → s + n ≤ 2 * n * (2 * n + 1) → Small (part s n t)

@@ -9,7 +9,7 @@ use lib.ListN.{length, getD}
 use Rattle.row.specs.Row.{dot}
 use Rattle.tableau.specs.Tableau.{part, row}
 use Rattle.tableau.proofs.Parts.{part-at, part-length, row-at}
-use Rattle.dots.specs.Dots.{combined, Sums}
+use Rattle.dots.specs.Dots.{combined, ColumnSums}
 use Rattle.columns.specs.Columns.{Laid}
 
 -- one of them
@@ -38,7 +38,7 @@ module _ (n : ℕ) (t c : List ℕ) (most : n ≤ 64) (h : Laid n t (256 * n) c)
 -- those of every earlier row
 module _ (n : ℕ) (t c : List ℕ) (most : n ≤ 64) (h : Laid n t (256 * n) c) (i count : ℕ) (l : i < 2 * n) (enough : i ≤ count)
     (room : i * (2 * n + 1) + (2 * n + 1) ≤ length t) where
-  pub plus-sums : {sums : List ℕ} → let v = part (i * (2 * n + 1) + n) n t in Sums v c 0 count (length v) sums
+  pub plus-sums : {sums : List ℕ} → let v = part (i * (2 * n + 1) + n) n t in ColumnSums v c 0 count (length v) sums
       → (j : ℕ) → j < i → getD sums j 0 ≡ dot n (row n t i) (row n t j) n
   plus-sums s j p =
       let v = part (i * (2 * n + 1) + n) n t in
@@ -46,7 +46,7 @@ module _ (n : ℕ) (t c : List ℕ) (most : n ≤ 64) (h : Laid n t (256 * n) c)
       ∙ ap (combined v c (0 + j)) (part-length (i * (2 * n + 1) + n) n t (omega arith))
       ∙ plus-dot n t c most h i j (omega arith) n (omega arith)
 
-  pub minus-sums : {sums : List ℕ} → let v = part (i * (2 * n + 1)) n t in Sums v c (128 * n) count (length v) sums
+  pub minus-sums : {sums : List ℕ} → let v = part (i * (2 * n + 1)) n t in ColumnSums v c (128 * n) count (length v) sums
       → (j : ℕ) → j < i → getD sums j 0 ≡ dot n (row n t j) (row n t i) n
   minus-sums s j p =
       let v = part (i * (2 * n + 1)) n t in

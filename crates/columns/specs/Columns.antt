@@ -2,11 +2,16 @@
 -- powers being the factor of a whole column.
 use mathlib.Core.Path.{_≡_}
 use mathlib.Core.List.{List}
-use Prim.Native.Nat.{ℕ, _+_, _*_, _<_}
+use Prim.Native.Nat.{ℕ, _+_, _*_, _<_, _≤_}
 use lib.ListN.{length, getD}
 use Rattle.row.specs.Row.{dot}
-use Rattle.tableau.specs.Tableau.{row}
+use Rattle.tableau.specs.Tableau.{Tableau, row}
 use Rattle.dots.specs.Dots.{Small}
+
+-- a tableau that fits into the columns: at most 64 qudits, every byte of its rows below 31
+pub record SmallTableau (n : ℕ) (t : List ℕ) : Type 0 where
+  pub size : n ≤ 64
+  pub tableau : Tableau 31 n t
 
 -- the columns of t, as far as they are laid: the places before p
 pub record Laid (n : ℕ) (t : List ℕ) (p : ℕ) (c : List ℕ) : Type 0 where

@@ -18,7 +18,7 @@ use Rattle.modular.specs.Modular.{neg}
 use Rattle.modular.specs.Dimension.{inverse, Dimension}
 use Rattle.row.specs.Row.{xOf, zOf}
 use Rattle.row.proofs.Laws.{powers-of}
-use Rattle.weyl.proofs.Reading.{bytes, Reads, reads-row, made, tri-is, neg-is}
+use Rattle.row_laws.proofs.Reading.{bytes, Reads, reads-row, made, tri-is, neg-is}
 use Rattle.operation.specs.declared.Operation.{Operation}
 use Rattle.operation.specs.declared.Operation.the-variants.{Fourier, PhaseGate, Sum, Cz, Swap, Multiplier, Measure}
 use Rattle.operation.specs.Operation.{allowed}

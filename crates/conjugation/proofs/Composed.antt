@@ -14,7 +14,7 @@ use Rattle.modular.specs.Dimension.{Dimension}
 use Rattle.row.specs.Row.{Row, Powers, phaseOf}
 use Rattle.tableau.specs.Tableau.{Tableau, every}
 use Rattle.tableau.proofs.Parts.{tableau-row, on-one}
-use Rattle.weyl.proofs.Reading.{bytes, reads-self, unique, reads-cong}
+use Rattle.row_laws.proofs.Reading.{bytes, reads-self, unique, reads-cong}
 use Rattle.operation.specs.declared.Operation.{Operation}
 use Rattle.operation.specs.declared.Operation.the-variants.{Fourier, PhaseGate, Sum, Cz}
 use Rattle.operation.specs.Operation.{allowed}

@@ -11,11 +11,11 @@ use Rattle.symplectic.proofs.Gates.{put, put-other}
 use Rattle.modular.specs.Dimension.{Dimension}
 use Rattle.row.specs.Row.{Row, xOf, zOf, phaseOf, product, power}
 use Rattle.row.proofs.Laws.{product-row, power-row}
-use Rattle.weyl.specs.Scalar.{none, scalar}
-use Rattle.weyl.proofs.Reading.{bytes, Reads, reads-self, reads-row, unique, reads-cong, reads-phase, reads-scalar}
-use Rattle.weyl.proofs.Laws.{power-zero, power-one, powers-add}
+use Rattle.row_laws.specs.Scalar.{none, scalar}
+use Rattle.row_laws.proofs.Reading.{bytes, Reads, reads-self, reads-row, unique, reads-cong, reads-phase, reads-scalar}
+use Rattle.row_laws.proofs.Laws.{power-zero, power-one, powers-add}
 use Rattle.conjugation.specs.Generators.{xOn, zOn, spelled}
-use Rattle.conjugation.specs.Conjugation.{Homomorphism, Spelled, GateDetermined}
+use Rattle.conjugation.specs.Conjugation.{Homomorphism, RowSpelled, GateDetermined}
 use Rattle.conjugation.proofs.Put.{put-each}
 use Rattle.conjugation.proofs.On.{join, x-on, z-on, xz-on}
 use Rattle.conjugation.proofs.Tables.{gate-conjugates}
@@ -53,8 +53,8 @@ module _ {d n : ℕ} {v : List ℕ} (low : 1 < d) (row : Row d n v) where
       let (x, z) = first-not n (bytes v) k k (le-refl k) l in
       reads-phase (cong-eq d (add-zero _)) (join l (omega arith) (spelled-first k (omega arith)) x z (xz-on low l (xOf v k) (zOf n v k)) .reads)
 
-pub spelled-row : Spelled
-spelled-row d n low v row =
+pub row-spelled : RowSpelled
+row-spelled d n low v row =
     unique
     (reads-cong (λ s l. cong-eq d (first-is n (bytes v) n (le-refl n) s l (λ a. a))) (cong-refl d _) (spelled-first low row n (le-refl n)))
     (reads-self row)
@@ -90,12 +90,12 @@ module _ {d n : ℕ} (dim : Dimension d) {f g : List ℕ → List ℕ} (f-hom : 
       (agree-power (zOf n v k) (reads-row (z-on low l .reads)) (on-z k l)))
 
   agree : (v : List ℕ) → Row d n v → f v ≡ g v
-  agree v row = rw (← spelled-row d n low v row) (agree-spelled row n (le-refl n))
+  agree v row = rw (← row-spelled d n low v row) (agree-spelled row n (le-refl n))
 
 pub gate-determined : GateDetermined
-gate-determined d n dim op h f f-hom f-tabled =
-    let (hom, tabled) = gate-conjugates d n dim op h in
+gate-determined d n dim op h f f-hom f-follows =
+    let (hom, follows) = gate-conjugates d n dim op h in
     agree dim f-hom hom
-    (λ r l. f-tabled .scalars r l ∙ sym (tabled .scalars r l))
-    (λ j l. f-tabled .onX j l ∙ sym (tabled .onX j l))
-    (λ j l. f-tabled .onZ j l ∙ sym (tabled .onZ j l))
+    (λ r l. f-follows .scalars r l ∙ sym (follows .scalars r l))
+    (λ j l. f-follows .onX j l ∙ sym (follows .onX j l))
+    (λ j l. f-follows .onZ j l ∙ sym (follows .onZ j l))

@@ -12,9 +12,9 @@ use Rattle.symplectic.proofs.Pairing.{half-none-left, pair-add-left}
 use Rattle.symplectic.proofs.Gates.{put, put-rel}
 use Rattle.modular.specs.Modular.{neg}
 use Rattle.row.specs.Row.{Row, Powers, xOf, zOf, phaseOf, product, pairing}
-use Rattle.weyl.specs.Scalar.{none, scalar}
-use Rattle.weyl.proofs.Reading.{bytes, Means, Reads, means, means-self, reads-self, positive, unique, reads-same, made, reads-scalar, reads-product, neg-is, pairing-small, pairing-means, pairing-is}
-use Rattle.weyl.proofs.Laws.{associative, exchange}
+use Rattle.row_laws.specs.Scalar.{none, scalar}
+use Rattle.row_laws.proofs.Reading.{bytes, Denotes, Reads, denotes, denotes-self, reads-self, positive, unique, reads-same, made, reads-scalar, reads-product, neg-is, pairing-small, pairing-means, pairing-is}
+use Rattle.row_laws.proofs.Laws.{associative, exchange}
 use Rattle.operation.specs.declared.WeylError.{WeylError}
 use Rattle.operation.specs.Gate.{withPhase}
 use Rattle.operation.specs.Error.{errorAllowed, errorRow, errorFrame}
@@ -54,7 +54,7 @@ module _ (m n : ℕ) (low : 1 < suc m) (e : WeylError) (h : errorAllowed (suc m)
       cong-trans (cong-add (cong-refl d _) (neg-is m _))
       (cong-trans
       (cong-eq d (omega (arith, half-from l (e .p) (e .s) (bytes v), ap (λ (z : ℕ). m * z) (half-to l (e .p) (e .s) (bytes v)))))
-      (cong-sym (pairing-means (means reads-operator) (means-self d n v))))
+      (cong-sym (pairing-means (denotes reads-operator) (denotes-self d n v))))
 
   row-gains : (v : List ℕ) → errorRow d n e v ≡ withPhase n ((phaseOf n v + pairing d n (operator d n e) v) % d) v
   unfolding errorRow
@@ -73,7 +73,7 @@ module _ (m n : ℕ) (low : 1 < suc m) (e : WeylError) (h : errorAllowed (suc m)
         (cong-eq d (omega arith)))
         (cong-add (cong-eq d (put-self l (bytes F) s)) (cong-sym (reads-operator .powers s k))))
 
-    frame-means : Means d n (errorFrame d n e F) (λ s. bytes F s + bytes (operator d n e) s) (phaseOf n (errorFrame d n e F))
+    frame-means : Denotes d n (errorFrame d n e F) (λ s. bytes F s + bytes (operator d n e) s) (phaseOf n (errorFrame d n e F))
     frame-means = record { powers = frame-gains; phase = cong-refl d _ }
 
 pub error-pairs : ErrorPairs
@@ -101,7 +101,7 @@ error-frame-pairs zero n dim e h F powers v = absurd (omega (arith, dim .low))
 error-frame-pairs (suc m) n dim e h F powers v =
     let low : 0 < suc m = omega arith in
     small-cong
-    (cong-trans (pairing-means (frame-means m n (omega (arith, dim .low)) e h F powers) (means-self _ n v))
+    (cong-trans (pairing-means (frame-means m n (omega (arith, dim .low)) e h F powers) (denotes-self _ n v))
     (cong-trans (cong-eq _ (pair-add-left m n (bytes F) (bytes (operator (suc m) n e)) (bytes v)))
     (cong-trans (cong-sym (cong-add (pairing-is m n F v) (pairing-is m n (operator (suc m) n e) v))) (cong-mod _ _))))
     (pairing-small low n _ _)

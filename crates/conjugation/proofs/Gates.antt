@@ -12,7 +12,7 @@ use Rattle.congruence.proofs.Congruence.{Cong, cong-sym, cong-trans, small-cong
 use Rattle.symplectic.proofs.Map.{pair-map}
 use Rattle.modular.specs.Dimension.{Dimension}
 use Rattle.row.specs.Row.{Row, phaseOf}
-use Rattle.weyl.proofs.Reading.{bytes, Means, Reads, means, reads-self, unique, reads-cong, reads-product, pairing-small, pairing-means, pairing-is}
+use Rattle.row_laws.proofs.Reading.{bytes, Denotes, Reads, denotes, reads-self, unique, reads-cong, reads-product, pairing-small, pairing-means, pairing-is}
 use Rattle.operation.specs.declared.Operation.{Operation}
 use Rattle.operation.specs.declared.Operation.the-variants.{Fourier, PhaseGate, Sum, Cz, Swap, Multiplier, Measure}
 use Rattle.operation.specs.Operation.{distinct, fromOne, allowed}
@@ -58,8 +58,8 @@ gate-keeps-pairing (suc e) n dim op h v w x y =
     low : 0 < suc e
     low = omega arith
 
-    gate : {v : List ℕ} → Row (suc e) n v → Means (suc e) n (gateRow (suc e) n op v) (mapped (suc e) n op (bytes v)) (phaseOf n v + gained (suc e) n op (bytes v))
-    gate x = means (reads-gate dim op h (reads-self x))
+    gate : {v : List ℕ} → Row (suc e) n v → Denotes (suc e) n (gateRow (suc e) n op v) (mapped (suc e) n op (bytes v)) (phaseOf n v + gained (suc e) n op (bytes v))
+    gate x = denotes (reads-gate dim op h (reads-self x))
 
 places : {n q : ℕ} → q < n → (q < 2 * n) × (n + q < 2 * n)
 places l = omega arith

@@ -13,8 +13,8 @@ use Rattle.symplectic.proofs.Gates.{put, put-rel, put-x, put-z, put-other, half
 use Rattle.row.specs.Row.{rowOf, product, power}
 use Rattle.row.proofs.Fill.{row-power, row-phase}
 use Rattle.row.proofs.Laws.{unit-row}
-use Rattle.weyl.specs.Scalar.{none}
-use Rattle.weyl.proofs.Reading.{Reads, reads-means, reads-cong, reads-same, reads-product, reads-power}
+use Rattle.row_laws.specs.Scalar.{none}
+use Rattle.row_laws.proofs.Reading.{Reads, reads-means, reads-cong, reads-same, reads-product, reads-power}
 use Rattle.row.specs.Generators.{unit, xWith, zWith}
 use Rattle.conjugation.specs.Generators.{xOn, zOn}
 use Rattle.conjugation.proofs.Put.{put-cong, put-each, put-self, Apart, put-two, apart-x, apart-z}

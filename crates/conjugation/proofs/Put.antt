@@ -11,7 +11,7 @@ use lib.Seq.{getD-set-same, getD-set-other, set-getD}
 use Rattle.congruence.proofs.Congruence.{Cong}
 use Rattle.symplectic.proofs.Gates.{put, put-rel, put-x, put-z, put-other}
 use Rattle.row.specs.Row.{xOf, zOf}
-use Rattle.weyl.proofs.Reading.{bytes}
+use Rattle.row_laws.proofs.Reading.{bytes}
 use Rattle.operation.specs.Gate.{withX, withZ}
 
 -- Congruent changes of congruent powers.

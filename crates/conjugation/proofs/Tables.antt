@@ -16,8 +16,8 @@ use Rattle.symplectic.proofs.Gates.{put, put-x, put-z}
 use Rattle.modular.specs.Modular.{neg}
 use Rattle.modular.specs.Dimension.{inverse, Dimension}
 use Rattle.row.specs.Row.{power}
-use Rattle.weyl.specs.Scalar.{none, scalar}
-use Rattle.weyl.proofs.Reading.{Reads, reads-row, unique, reads-cong, reads-scalar, neg-is}
+use Rattle.row_laws.specs.Scalar.{none, scalar}
+use Rattle.row_laws.proofs.Reading.{Reads, reads-row, unique, reads-cong, reads-scalar, neg-is}
 use Rattle.operation.specs.declared.Operation.{Operation}
 use Rattle.operation.specs.declared.Operation.the-variants.{Fourier, PhaseGate, Sum, Cz, Swap, Multiplier, Measure}
 use Rattle.operation.specs.Operation.{distinct, fromOne, allowed}

@@ -7,7 +7,7 @@ use Prim.Native.Nat.{ℕ, _+_, _*_, _%_, _<_}
 use lib.ListN.{getD, take}
 use Rattle.modular.specs.Dimension.{Dimension}
 use Rattle.row.specs.Row.{Row, Powers, phaseOf, product, pairing}
-use Rattle.weyl.specs.Scalar.{scalar}
+use Rattle.row_laws.specs.Scalar.{scalar}
 use Rattle.operation.specs.declared.Operation.{Operation}
 use Rattle.operation.specs.declared.WeylError.{WeylError}
 use Rattle.operation.specs.Operation.{allowed}
@@ -17,8 +17,8 @@ use Rattle.conjugation.specs.Generators.{xOn, zOn, operator, spelled}
 use Rattle.conjugation.specs.Published.{imageX, imageZ}
 
 -- Every row is the product that it means.
-abbrev pub Spelled : Type 0
-Spelled = (d n : ℕ) → 1 < d → (v : List ℕ) → Row d n v → spelled d n v n ≡ v
+abbrev pub RowSpelled : Type 0
+RowSpelled = (d n : ℕ) → 1 < d → (v : List ℕ) → Row d n v → spelled d n v n ≡ v
 
 -- a map of rows to rows that keeps the product with its phase
 pub record Homomorphism (d n : ℕ) (f : List ℕ → List ℕ) : Type 0 where
@@ -26,7 +26,7 @@ pub record Homomorphism (d n : ℕ) (f : List ℕ → List ℕ) : Type 0 where
   pub products : (v w : List ℕ) → Row d n v → Row d n w → f (product d n v w) ≡ product d n (f v) (f w)
 
 -- it sends ω and the generators where the tables say
-pub record Tabled (d n : ℕ) (op : Operation) (f : List ℕ → List ℕ) : Type 0 where
+pub record FollowsTable (d n : ℕ) (op : Operation) (f : List ℕ → List ℕ) : Type 0 where
   pub scalars : (r : ℕ) → r < d → f (scalar n r) ≡ scalar n r
   pub onX : (j : ℕ) → j < n → f (xOn n j) ≡ imageX d n op j
   pub onZ : (j : ℕ) → j < n → f (zOn n j) ≡ imageZ d n op j
@@ -34,11 +34,11 @@ pub record Tabled (d n : ℕ) (op : Operation) (f : List ℕ → List ℕ) : Typ
 -- A gate is such a map, and the only one: on every row.
 abbrev pub GateConjugates : Type 0
 GateConjugates = (d n : ℕ) → Dimension d → (op : Operation) → allowed d n op ≡ true
-    → Homomorphism d n (gateRow d n op) × Tabled d n op (gateRow d n op)
+    → Homomorphism d n (gateRow d n op) × FollowsTable d n op (gateRow d n op)
 
 abbrev pub GateDetermined : Type 0
 GateDetermined = (d n : ℕ) → Dimension d → (op : Operation) → allowed d n op ≡ true
-    → (f : List ℕ → List ℕ) → Homomorphism d n f → Tabled d n op f
+    → (f : List ℕ → List ℕ) → Homomorphism d n f → FollowsTable d n op f
     → (v : List ℕ) → Row d n v → f v ≡ gateRow d n op v
 
 abbrev pub GateKeepsPairing : Type 0
@@ -50,7 +50,7 @@ abbrev pub GateOnFrame : Type 0
 GateOnFrame = (d n : ℕ) (op : Operation) → allowed d n op ≡ true
     → (v : List ℕ) → Row d n v → take (2 * n) (gateRow d n op v) ≡ gateFrame d n op (take (2 * n) v)
 
--- Error times row is the struck row times error, and the struck row's phase has gained the pairing of the error with the row.
+-- Error times row is the row after the error, times error, and that row's phase has gained the pairing of the error with the row.
 abbrev pub ErrorConjugates : Type 0
 ErrorConjugates = (d n : ℕ) → Dimension d → (e : WeylError) → errorAllowed d n e ≡ true
     → (v : List ℕ) → Row d n v → product d n (operator d n e) v ≡ product d n (errorRow d n e v) (operator d n e)

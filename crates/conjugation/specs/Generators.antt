@@ -3,7 +3,7 @@ use mathlib.Core.List.{List}
 use Prim.Native.Nat.{ℕ, zero, suc}
 use Rattle.row.specs.Row.{xOf, zOf, phaseOf, product, power}
 use Rattle.row.specs.Generators.{xWith, zWith}
-use Rattle.weyl.specs.Scalar.{scalar}
+use Rattle.row_laws.specs.Scalar.{scalar}
 use Rattle.operation.specs.declared.WeylError.{WeylError}
 
 abbrev pub xOn : ℕ → ℕ → List ℕ

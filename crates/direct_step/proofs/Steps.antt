@@ -7,14 +7,14 @@ use lib.ListN.{length}
 use Rattle.operation.specs.declared.Operation.{Operation}
 use Rattle.operation.specs.declared.WeylError.{WeylError}
 use Rattle.circuit.specs.Circuit.{opAt, measured}
-use Rattle.run.specs.Direct.{State, strike, directOperation, directStrike, directStep}
+use Rattle.runs.specs.Direct.{State, errorsOnRows, directOperation, directErrors, directStep}
 
 module _ (d n : ℕ) (ops : List Operation) (errors : List WeylError) (choices : List ℕ) where
   pub step-is :
-      (k : ℕ) (t results : List ℕ) {j : ℕ} {struck : List ℕ} {after : State} →
+      (k : ℕ) (t results : List ℕ) {j : ℕ} {after-errors : List ℕ} {after : State} →
       j ≡ measured ops k →
-      struck ≡ strike d n errors k t (length errors) →
-      after ≡ directOperation d n choices j (record { rows = struck; results = results }) (opAt ops k) →
+      after-errors ≡ errorsOnRows d n errors k t (length errors) →
+      after ≡ directOperation d n choices j (record { rows = after-errors; results = results }) (opAt ops k) →
       after ≡ directStep d n ops errors choices k (record { rows = t; results = results })
-  unfolding directStep directStrike
+  unfolding directStep directErrors
   step-is k t results m s e = rw (← m, ← s) e

@@ -1,4 +1,4 @@
--- Sums of products of factors with columns: they are small, eight more are two times four, and a wide copy of the factors serves.
+-- ColumnSums of products of factors with columns: they are small, eight more are two times four, and a wide copy of the factors serves.
 -- Assumes nothing.
 use mathlib.Core.Path.{_≡_, refl, sym, ap, _∙_}
 use mathlib.Core.List.{List}
@@ -11,7 +11,7 @@ use Rattle.row.specs.Row.{xOf}
 use Rattle.row.specs.Fill.{filled}
 use Rattle.row.proofs.Fill.{filled-get, filled-rest}
 use Rattle.dots.specs.declared.Four.{Four}
-use Rattle.dots.specs.Dots.{Small, combined, Sums, fourAt, products}
+use Rattle.dots.specs.Dots.{Small, combined, ColumnSums, SmallFour, fourAt, products}
 
 pub zero-at : (m k : ℕ) → getD {A = ℕ} (replicate m 0) k 0 ≡ 0
 zero-at m k = by (decLt k m)
@@ -41,8 +41,8 @@ combined-most v c at (suc k) a b =
     omega (arith, combined-most v c at k a b)
 
 -- factors of a list of small numbers are small
-pub four-small : (v : List ℕ) (k : ℕ) {f : Four} → f ≡ fourAt v k → Small v → (f .first ≤ 30) × (f .second ≤ 30) × (f .third ≤ 30) × (f .fourth ≤ 30)
-four-small v k e s = rw e (s .most k, s .most (k + 1), s .most (k + 2), s .most (k + 3))
+pub four-small : (v : List ℕ) (k : ℕ) {f : Four} → f ≡ fourAt v k → Small v → SmallFour f
+four-small v k e s = rw e (record { first = s .most k; second = s .most (k + 1); third = s .most (k + 2); fourth = s .most (k + 3) })
 
 module _ (v c : List ℕ) (at : ℕ) where
   -- equal factors, equal sums
@@ -84,7 +84,7 @@ combined-eight v c from j k f g d e =
 
 -- a copy's factors serve, and those past the last are 0
 pub sums-of : (v w c : List ℕ) (from count m : ℕ) {sums : List ℕ} → ((k : ℕ) → getD w k 0 ≡ getD v k 0) → length v ≤ m
-    → Sums w c from count m sums → Sums v c from count (length v) sums
+    → ColumnSums w c from count m sums → ColumnSums v c from count (length v) sums
 sums-of v w c from count m e l s =
     let q : m ≡ length v + (m - length v) = omega arith in
     record {
@@ -92,7 +92,7 @@ sums-of v w c from count m e l s =
       sum = λ j h. s .sum j h ∙ combined-same v c (from + j) w e m ∙ ap (combined v c (from + j)) q ∙ combined-past v c (from + j) (m - length v);
     }
 
-pub sums-none : (v c : List ℕ) (from count : ℕ) {sums : List ℕ} → sums ≡ replicate 128 0 → Sums v c from count 0 sums
+pub sums-none : (v c : List ℕ) (from count : ℕ) {sums : List ℕ} → sums ≡ replicate 128 0 → ColumnSums v c from count 0 sums
 unfolding combined
 sums-none v c from count e =
     record { len = ap length e ∙ length-replicate {A = ℕ} 128 0; sum = λ j h. ap (λ (x : List ℕ). getD x j 0) e ∙ zero-at 128 j }

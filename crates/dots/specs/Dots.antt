@@ -10,6 +10,18 @@ use Rattle.dots.specs.declared.Four.{Four}
 pub record Small (v : List ℕ) : Type 0 where
   pub most : (k : ℕ) → getD v k 0 ≤ 30
 
+-- 64 such numbers, the factors
+pub record Factors (v : List ℕ) : Type 0 where
+  pub len : length v ≡ 64
+  pub small : Small v
+
+-- 128 columns of 128 such numbers. Sums go over up to 64 columns, the first of which begins at `from`, for the first `count` rows.
+pub record SmallColumns (c : List ℕ) (from count : ℕ) : Type 0 where
+  pub len : length c ≡ 16384
+  pub small : Small c
+  pub start : from ≤ 8192
+  pub rows : count ≤ 128
+
 -- Σ over the first k factors v, each times the number in its column; the first column's stands at `at`
 unfoldable pub combined : List ℕ → List ℕ → ℕ → ℕ → ℕ
 combined v c at zero = 0
@@ -19,13 +31,19 @@ combined v c at (suc k) = combined v c at k + getD v k 0 * getD c (at + 128 * k)
 abbrev pub combinedAt : List ℕ → List ℕ → ℕ → ℕ → ℕ → ℕ
 combinedAt v c from k j = combined v c (from + j) k
 
-pub record Sums (v c : List ℕ) (from count k : ℕ) (sums : List ℕ) : Type 0 where
+pub record ColumnSums (v c : List ℕ) (from count k : ℕ) (sums : List ℕ) : Type 0 where
   pub len : length sums ≡ 128
   pub sum : (j : ℕ) → j < count → getD sums j 0 ≡ combinedAt v c from k j
 
--- four factors, and the sum of their products
+-- four factors, small ones, and the sum of their products
 abbrev pub fourAt : List ℕ → ℕ → Four
 fourAt v k = record { first = getD v k 0; second = getD v (k + 1) 0; third = getD v (k + 2) 0; fourth = getD v (k + 3) 0 }
+
+pub record SmallFour (f : Four) : Type 0 where
+  pub first : f .first ≤ 30
+  pub second : f .second ≤ 30
+  pub third : f .third ≤ 30
+  pub fourth : f .fourth ≤ 30
 
 abbrev pub products : Four → List ℕ → ℕ → ℕ
 products f c at =

@@ -2,7 +2,7 @@
 ghost use mathlib.Core.Path.{_≡_};
 ghost use Prim.Native.Nat.{_+_, _*_, _<_, _≤_};
 ghost use lib.ListN.{length, replicate};
-ghost use Rattle.dots.specs.Dots.{Small, Sums, fourAt, products};
+ghost use Rattle.dots.specs.Dots.{Small, Factors, SmallColumns, ColumnSums, SmallFour, fourAt, products};
 
 // Four powers of a row, as the factors of four columns.
 struct Four {
@@ -40,13 +40,9 @@ fn four_at(left: &[u16], k: usize) -> Four
 
 // The sum of four products, one from each of four columns.
 fn products(f: Four, columns: &[u16], at: usize) -> u16
-    requires { ⌜ (f .first ≤ 30)
-        × (f .second ≤ 30)
-        × (f .third ≤ 30)
-        × (f .fourth ≤ 30)
-        × (length (now columns) ≡ 16384)
+    requires { ⌜ SmallFour f
         × Small (now columns)
-        × (at < 16000) ⌝ }
+        × (at + 384 < length (now columns)) ⌝ }
     ensures { λ r. ⌜ (r ≡ products f (now (columns .entry)) at)
         × (r ≤ 3600) ⌝ }
 {
@@ -57,15 +53,11 @@ fn products(f: Four, columns: &[u16], at: usize) -> u16
 
 // Each sum gains eight products, those of the factors 8q to 8q + 7.
 fn add_eight(sums: &mut [u16], columns: &[u16], left: &[u16], from: usize, q: usize, count: usize)
-    requires { ⌜ (from ≤ 8192)
-        × (q < 8)
-        × (count ≤ 128)
-        × (length (now left) ≡ 64)
-        × Small (now left)
-        × (length (now columns) ≡ 16384)
-        × Small (now columns)
-        × Sums (now left) (now columns) from count (8 * q) (now sums) ⌝ }
-    ensures { λ _. ⌜ Sums (now (left .entry)) (now (columns .entry)) from count (8 * q + 8) (now (sums .exit)) ⌝ }
+    requires { ⌜ (q < 8)
+        × Factors (now left)
+        × SmallColumns (now columns) from count
+        × ColumnSums (now left) (now columns) from count (8 * q) (now sums) ⌝ }
+    ensures { λ _. ⌜ ColumnSums (now (left .entry)) (now (columns .entry)) from count (8 * q + 8) (now (sums .exit)) ⌝ }
 {
     let k = 8 * q;
     let f = four_at(left, k);
@@ -85,15 +77,11 @@ fn add_blocks(
     blocks: usize,
     count: usize,
 )
-    requires { ⌜ (from ≤ 8192)
-        × (blocks ≤ 8)
-        × (count ≤ 128)
-        × (length (now left) ≡ 64)
-        × Small (now left)
-        × (length (now columns) ≡ 16384)
-        × Small (now columns)
-        × Sums (now left) (now columns) from count 0 (now sums) ⌝ }
-    ensures { λ _. ⌜ Sums (now (left .entry)) (now (columns .entry)) from count (8 * blocks) (now (sums .exit)) ⌝ }
+    requires { ⌜ (blocks ≤ 8)
+        × Factors (now left)
+        × SmallColumns (now columns) from count
+        × ColumnSums (now left) (now columns) from count 0 (now sums) ⌝ }
+    ensures { λ _. ⌜ ColumnSums (now (left .entry)) (now (columns .entry)) from count (8 * blocks) (now (sums .exit)) ⌝ }
 {
     for q in 0..blocks {
         add_eight(sums, columns, left, from, q, count);
@@ -102,14 +90,11 @@ fn add_blocks(
 
 // Each sum becomes that of the products of the powers with a number of each column; the first column begins at `from`.
 pub fn add_dots(sums: &mut [u16], columns: &[u16], powers: &[u8], from: usize, count: usize)
-    requires { ⌜ (from ≤ 8192)
-        × (count ≤ 128)
-        × (length (now powers) ≤ 64)
+    requires { ⌜ (length (now powers) ≤ 64)
         × Small (now powers)
-        × (length (now columns) ≡ 16384)
-        × Small (now columns)
+        × SmallColumns (now columns) from count
         × (now sums ≡ replicate 128 0) ⌝ }
-    ensures { λ _. ⌜ Sums (now (powers .entry)) (now (columns .entry)) from count (length (now (powers .entry))) (now (sums .exit)) ⌝ }
+    ensures { λ _. ⌜ ColumnSums (now (powers .entry)) (now (columns .entry)) from count (length (now (powers .entry))) (now (sums .exit)) ⌝ }
 {
     let mut left = [0u16; 64];
     let blocks = (powers.len() + 7) / 8;

@@ -2,12 +2,11 @@
 // get the clean run's bytes.
 ghost use mathlib.Core.Path.{_≡_};
 ghost use mathlib.Core.List.{_∷_};
-ghost use Prim.Native.Nat.{_+_, _*_, _<_, _≤_};
+ghost use Prim.Native.Nat.{_+_, _*_, _≤_};
 ghost use lib.ListN.{length};
 ghost use Rattle.tableau.specs.Tableau.{part, put};
-ghost use Rattle.tray.specs.Tray.{shotsIn};
-ghost use Rattle.expand.specs.Expand.{noisyAmong, rowOf, Expanded};
-use entries::word;
+ghost use Rattle.expand.specs.Expand.{noisyAmong, shotRowOf, RowsRoom, Expanded};
+use book_entries::word;
 
 // The row becomes that of a shot without errors: clean, and the clean results.
 fn clean_row(row: &mut [u8], clean: &[u8])
@@ -20,7 +19,8 @@ fn clean_row(row: &mut [u8], clean: &[u8])
 
 // The w bytes from `to` on become those from `from` on, which lie before them.
 fn move_row(out: &mut [u8], from: usize, to: usize, w: usize)
-    requires { ⌜ (from + w ≤ to) × (to + w ≤ length (now out)) ⌝ }
+    requires { ⌜ (from + w ≤ to)
+        × (to + w ≤ length (now out)) ⌝ }
     ensures { λ _. ⌜ now (out .exit) ≡ put to w (part from w (now (out .entry))) (now (out .entry)) ⌝ }
 {
     let mut j = 0;
@@ -40,15 +40,11 @@ fn row_at(
     i: usize,
     noisy: usize,
 ) -> usize
-    requires { ⌜ (w ≡ 1 + length (now clean))
-        × (w < 65536)
-        × (first + i < shotsIn (now tray))
-        × (2 + 2 * shotsIn (now tray) ≤ length (now tray))
-        × (i * w + w ≤ length (now out))
+    requires { ⌜ RowsRoom (now tray) first (now clean) w (i + 1) (now out)
         × (noisy ≡ noisyAmong (now tray) first (i + 1))
         × (noisy ≤ i) ⌝ }
     ensures { λ r. ⌜ (r ≡ noisyAmong (now (tray .entry)) first i)
-        × (now (out .exit) ≡ put (i * w) w (rowOf (now (tray .entry)) first (now (clean .entry)) w (now (out .entry)) i) (now (out .entry))) ⌝ }
+        × (now (out .exit) ≡ put (i * w) w (shotRowOf (now (tray .entry)) first (now (clean .entry)) w (now (out .entry)) i) (now (out .entry))) ⌝ }
 {
     let s = i * w;
     let e = s + w;
@@ -72,11 +68,7 @@ pub fn expand(
     count: usize,
     noisy: usize,
 )
-    requires { ⌜ (w ≡ 1 + length (now clean))
-        × (w < 65536)
-        × (first + count ≤ shotsIn (now tray))
-        × (2 + 2 * shotsIn (now tray) ≤ length (now tray))
-        × (count * w ≤ length (now out))
+    requires { ⌜ RowsRoom (now tray) first (now clean) w count (now out)
         × (noisy ≡ noisyAmong (now tray) first count) ⌝ }
     ensures { λ _. ⌜ Expanded (now (tray .entry)) first (now (clean .entry)) w count (now (out .entry)) (now (out .exit)) ⌝ }
 {

@@ -12,7 +12,7 @@ ghost use Rattle.tables.specs.Tables.{Tables};
 ghost use Rattle.operation.specs.declared.Operation.the-variants.{Fourier, PhaseGate, Sum, Cz, Multiplier};
 ghost use Rattle.operation.specs.Operation.{allowed};
 ghost use Rattle.operation.specs.Gate.{gatePowers, gateRow, gateRows};
-ghost use Rattle.gate.specs.Numbered.{numbered};
+ghost use Rattle.gate.specs.Numbered.{numbered, NumberedGate, RepeatedGate};
 use operation::Operation;
 
 // The phase r after k applications of Fourier to the powers a and b. Twice leaves it.
@@ -40,8 +40,8 @@ fn fourier_row(v: &mut [u8], q: usize, k: u8, tables: &[u8], d: u8, n: usize)
     let a = v[q];
     let b = v[n + q];
     let r = fourier_phase(v[last], k, a, b, tables, d);
-    v[q] = frames::fourier_x(d, k, a, b);
-    v[n + q] = frames::fourier_z(d, k, a, b);
+    v[q] = frame_powers::fourier_x(d, k, a, b);
+    v[n + q] = frame_powers::fourier_z(d, k, a, b);
     v[last] = r;
 }
 
@@ -128,8 +128,7 @@ fn gate_row(
     d: u8,
     n: usize,
 )
-    requires { ⌜ (allowed d n (numbered number x y k) ≡ true)
-        × (number ≡ 5 → f ≡ inverse d k)
+    requires { ⌜ NumberedGate d n number x y k f
         × Row d n (now v)
         × Tables d (now tables) ⌝ }
     ensures { λ _. ⌜ now (v .exit) ≡ gateRow d n (numbered number x y k) (now (v .entry)) ⌝ }
@@ -139,7 +138,7 @@ fn gate_row(
         1 => phase_gate_row(v, x, 1, tables, d, n),
         2 => sum_row(v, x, y, 1, tables, d, n),
         3 => cz_row(v, x, y, 1, tables, d, n),
-        4 => frames::swap_powers(v, x, y, n),
+        4 => frame_powers::swap_powers(v, x, y, n),
         5 => multiplier_row(v, x, k, f, tables, d, n),
         6 => fourier_row(v, x, 2, tables, d, n),
         7 => fourier_row(v, x, 3, tables, d, n),
@@ -163,8 +162,7 @@ fn gate_at(
     n: usize,
 )
     requires { ⌜ (i * (2 * n + 1) + (2 * n + 1) ≤ length (now t))
-        × (allowed d n (numbered number x y k) ≡ true)
-        × (number ≡ 5 → f ≡ inverse d k)
+        × NumberedGate d n number x y k f
         × Row d n (row n (now t) i)
         × Tables d (now tables) ⌝ }
     ensures { λ _. ⌜ now (t .exit) ≡ put (i * (2 * n + 1)) (2 * n + 1) (gateRow d n (numbered number x y k) (row n (now (t .entry)) i)) (now (t .entry)) ⌝ }
@@ -188,8 +186,7 @@ fn gate_all(
     n: usize,
 )
     requires { ⌜ (n ≤ 64)
-        × (allowed d n (numbered number x y k) ≡ true)
-        × (number ≡ 5 → f ≡ inverse d k)
+        × NumberedGate d n number x y k f
         × Tableau d n (now t)
         × Tables d (now tables) ⌝ }
     ensures { λ _. ⌜ now (t .exit) ≡ gateRows d n (numbered number x y k) (now (t .entry)) ⌝ }
@@ -221,9 +218,7 @@ fn fourier_times(t: &mut [u8], q: usize, k: u8, tables: &[u8], d: u8, n: usize)
 // neither multiplies nor asks for k at each row.
 fn gate_times(t: &mut [u8], number: u8, x: usize, y: usize, k: u8, tables: &[u8], d: u8, n: usize)
     requires { ⌜ (n ≤ 64)
-        × (1 ≤ number)
-        × (number ≤ 3)
-        × (allowed d n (numbered (number + 7) x y k) ≡ true)
+        × RepeatedGate d n number x y k
         × Tableau d n (now t)
         × Tables d (now tables) ⌝ }
     ensures { λ _. ⌜ now (t .exit) ≡ gateRows d n (numbered (number + 7) x y k) (now (t .entry)) ⌝ }

@@ -6,7 +6,8 @@ ghost use Rattle.modular.specs.Dimension.{powerOf, inverse};
 
 // u to the power k, by squares: 7 products for an inverse modulo 31, and not 29.
 fn power(d: u8, m: u16, u: u8, k: u8) -> u8
-    requires { ⌜ (u < d) × Reciprocal d m ⌝ }
+    requires { ⌜ (u < d)
+        × Reciprocal d m ⌝ }
     ensures { λ r. ⌜ r ≡ powerOf d u k ⌝ }
 {
     let mut x = if k % 2 == 1 { u } else { 1 };
@@ -24,7 +25,8 @@ fn power(d: u8, m: u16, u: u8, k: u8) -> u8
 
 // The inverse of u modulo d, as u to the power d − 2: 0 for 0 and for every u from d up.
 pub fn inverse(d: u8, u: u8) -> u8
-    requires { ⌜ (3 ≤ d) × (d ≤ 31) ⌝ }
+    requires { ⌜ (3 ≤ d)
+        × (d ≤ 31) ⌝ }
     ensures { λ r. ⌜ r ≡ inverse d u ⌝ }
 {
     if u >= d {

@@ -1,7 +1,7 @@
 // A gate on the frames of 256 shots, by the code of its entry.
 ghost use mathlib.Core.Path.{_≡_};
 ghost use mathlib.Core.Bool.{true};
-ghost use Prim.Native.Nat.{_/_, _<_, _≤_};
+ghost use Prim.Native.Nat.{_/_, _<_};
 ghost use lib.ListN.{length};
 ghost use Rattle.modular.specs.Modular.{Reciprocal};
 ghost use Rattle.modular.specs.Dimension.{listed};
@@ -9,12 +9,11 @@ ghost use Rattle.operation.specs.Gate.{gateFrame};
 ghost use Rattle.circuit.specs.Circuit.{opAt};
 ghost use Rattle.book.specs.Decoded.{operationsOf};
 ghost use Rattle.lanes.specs.Lanes.{Lanes, Each};
-ghost use Rattle.codes.specs.Allowed.{AllAllowed};
+ghost use Rattle.operation_codes.specs.Allowed.{AllAllowed};
 
 // Operation k on each lane, by its code: the reader has accepted the entry, so nothing is tested again.
 pub fn perform(v: &mut [u8], ops: &[u8], k: usize, d: u8, m: u16, n: usize)
     requires { ⌜ (k < length (now ops) / 4)
-        × (n ≤ 64)
         × (listed d ≡ true)
         × AllAllowed d n (operationsOf d n (now ops))
         × Lanes d n (now v)
@@ -24,10 +23,10 @@ pub fn perform(v: &mut [u8], ops: &[u8], k: usize, d: u8, m: u16, n: usize)
 {
     let at = 4 * k;
     let code = ops[at];
-    let q = entries::wide(ops[at + 1]);
-    let t = entries::wide(ops[at + 2]);
+    let q = casts::byte_as_usize(ops[at + 1]);
+    let t = casts::byte_as_usize(ops[at + 2]);
     let u = ops[at + 3];
-    let times = entries::times_in(u);
+    let times = book_entries::times_in(u);
     match code {
         0 => lanes::fourier_lanes(v, q, times, d, n),
         1 => lanes::phase_gate_lanes(v, q, times, d, m, n),

@@ -7,13 +7,14 @@ use native.Mathlib.Decide.{ℕ-discrete}
 use native.Mathlib.Omega.{arith}
 use lib.ListN.{length, getD, set, length-set, length-replicate}
 use lib.Seq.{getD-set-same, getD-set-other, ext-getD}
+use Rattle.modular.specs.Dimension.{Dimension}
 use Rattle.row.proofs.Fill.{tab-length, tab-get}
 use Rattle.operation.specs.declared.WeylError.{WeylError}
-use Rattle.run.proofs.Frames.{no-frame}
+use Rattle.runs.proofs.Frames.{no-frame}
 use Rattle.lanes.specs.Lanes.{powerAt, lane, Lanes}
-use Rattle.calendar.specs.Calendar.{waiting, Filed}
-use Rattle.block.specs.Block.{Empty}
-use Rattle.lane_shots.specs.LaneShots.{blank, AllFiled}
+use Rattle.calendar.specs.Calendar.{waiting, Queued}
+use Rattle.block.specs.Block.{NoFrames}
+use Rattle.lane_shots.specs.LaneShots.{blank, AllQueued}
 
 pub blank-length : (n : ℕ) → length (blank n) ≡ n
 blank-length n = length-replicate {A = ℕ} n 0
@@ -24,17 +25,17 @@ zeros (suc n) zero = refl
 zeros (suc n) (suc l) = zeros n l
 
 -- the lists
-pub filed-more : (slots : List ℕ) (k x : ℕ) → k < length slots → x ≡ k → ((l : ℕ) → l < k → getD slots l 0 ≡ l)
+pub queued-more : (slots : List ℕ) (k x : ℕ) → k < length slots → x ≡ k → ((l : ℕ) → l < k → getD slots l 0 ≡ l)
     → (l : ℕ) → l < k + 1 → getD (set slots k x) l 0 ≡ l
-filed-more slots k x low q h l g = by (ℕ-discrete l k)
+queued-more slots k x low q h l g = by (ℕ-discrete l k)
   where
     by : Dec (l ≡ k) → getD (set slots k x) l 0 ≡ l
     by (yes e) = rw e (getD-set-same slots k x 0 low ∙ q)
     by (no e) = getD-set-other slots k l x 0 e ∙ h l (omega arith)
 
-pub all-filed : {slots counts : List ℕ} → length slots ≡ 65536 → ((l : ℕ) → l < 256 → getD slots l 0 ≡ l) → counts ≡ blank 256
-    → AllFiled slots (set counts 0 256)
-all-filed {slots} {counts} room lanes e =
+pub all-queued : {slots counts : List ℕ} → length slots ≡ 65536 → ((l : ℕ) → l < 256 → getD slots l 0 ≡ l) → counts ≡ blank 256
+    → AllQueued slots (set counts 0 256)
+all-queued {slots} {counts} room lanes e =
     record {
       slots-room = room;
       lanes = lanes;
@@ -57,29 +58,29 @@ waiting-more : (counts : List ℕ) (k : ℕ) → waiting counts (suc k) ≡ wait
 unfolding waiting
 waiting-more counts k = refl
 
-waiting-one : {slots counts : List ℕ} → AllFiled slots counts → (k : ℕ) → waiting counts (suc k) ≡ 256
+waiting-one : {slots counts : List ℕ} → AllQueued slots counts → (k : ℕ) → waiting counts (suc k) ≡ 256
 waiting-one {slots} {counts} h zero = omega (arith, waiting-more counts 0, waiting-none counts, h .first)
 waiting-one {slots} {counts} h (suc k) = omega (arith, waiting-more counts (suc k), waiting-one h k, h .others (suc k) (omega arith))
 
-pub filed-start : (E : ℕ → List WeylError) {slots counts cursors : List ℕ} → AllFiled slots counts → cursors ≡ blank 256 → Filed E slots counts cursors 0
-filed-start E {slots} {counts} {cursors} h e =
+pub queued-start : (E : ℕ → List WeylError) {slots counts cursors : List ℕ} → AllQueued slots counts → cursors ≡ blank 256 → Queued E slots counts cursors 0
+queued-start E {slots} {counts} {cursors} h e =
     record {
       slots-room = h .slots-room;
       counts-room = h .counts-room;
       cursors-room = ap length e ∙ blank-length 256;
       few = omega (arith, waiting-one h 255);
       reached = λ l g. rw (e, zeros 256 l) (record { inside = omega arith; spent = λ i z. absurd (omega arith); left = λ i a b. omega arith });
-      waits = λ l g z. record {
+      pending = λ l g z. record {
         at = 0;
         from = omega arith;
         reach = omega arith;
         in-time = omega arith;
-        listed = record { index = l; inside = omega (arith, h .first); is = let q : 256 * (0 % 256) + l ≡ l = omega arith in rw q (h .lanes l g) };
+        in-list = record { index = l; inside = omega (arith, h .first); is = let q : 256 * (0 % 256) + l ≡ l = omega arith in rw q (h .lanes l g) };
       };
     }
 
 -- no frame in any lane
-pub empty : (n : ℕ) {v : List ℕ} → v ≡ blank 32768 → Empty n v
+pub empty : (n : ℕ) {v : List ℕ} → v ≡ blank 32768 → NoFrames n v
 unfolding lane
 empty n {v} e l h =
     ext-getD 0 _ _ (tab-length (powerAt v l) (2 * n) ∙ sym (blank-length (2 * n)))
@@ -90,9 +91,11 @@ empty n {v} e l h =
     at-zero : (i : ℕ) → getD v i 0 ≡ 0
     at-zero i = rw e (zeros 32768 i)
 
-pub lanes-start : (d n : ℕ) {v : List ℕ} → 0 < d → n ≤ 64 → v ≡ blank 32768 → Lanes d n v
-lanes-start d n {v} low few e =
+pub lanes-start : (d n : ℕ) {v : List ℕ} → Dimension d → n ≤ 64 → v ≡ blank 32768 → Lanes d n v
+lanes-start d n {v} dim few e =
     record {
+      dimension = dim .high;
+      qudits = few;
       room = omega (arith, ap length e, blank-length 32768);
-      powers = λ l h. rw (empty n e l h) (no-frame d n low .powers);
+      powers = λ l h. rw (empty n e l h) (no-frame d n (omega (arith, dim .low)) .powers);
     }

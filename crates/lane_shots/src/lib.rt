@@ -1,15 +1,15 @@
 // A block of up to 256 shots, one in each lane: their bytes and their verdicts, from the clean run.
 ghost use mathlib.Core.Path.{_≡_};
-ghost use Prim.Native.Nat.{_*_, _≤_};
 ghost use lib.ListN.{length};
-ghost use Rattle.book.specs.Decoded.{operationsOf};
-ghost use Rattle.calendar.specs.Passing.{laneErrors, Block};
-ghost use Rattle.lane_shots.specs.LaneShots.{blank, AllFiled, Fits, cleanEnd, shiftedBy, ShotRows};
+ghost use Rattle.tile.specs.Tile.{TileRoom, ShotsRoom};
+ghost use Rattle.calendar.specs.LaneErrors.{LaneBodies};
+ghost use Rattle.lane_shots.specs.LaneShots.{blank, NewLanes, AllQueued, CleanShots, LaneRows, shiftedInLanes};
 
 // Every lane stands in the list of place 0.
-fn file(slots: &mut [u8], counts: &mut [usize])
-    requires { ⌜ (length (now slots) ≡ 65536) × (now counts ≡ blank 256) ⌝ }
-    ensures { λ _. ⌜ AllFiled (now (slots .exit)) (now (counts .exit)) ⌝ }
+fn enqueue_all(slots: &mut [u8], counts: &mut [usize])
+    requires { ⌜ (length (now slots) ≡ 65536)
+        × (now counts ≡ blank 256) ⌝ }
+    ensures { λ _. ⌜ AllQueued (now (slots .exit)) (now (counts .exit)) ⌝ }
 {
     let mut l = 0;
     while l < 256 {
@@ -40,21 +40,15 @@ fn fill_in(
     d: u8,
     n: usize,
 ) -> usize
-    requires { ⌜ (now v ≡ blank 32768)
-        × (length (now slots) ≡ 65536)
-        × (now counts ≡ blank 256)
-        × (now cursors ≡ blank 256)
-        × (length (now tile) ≡ 4096)
-        × (length (now spare) ≡ 4096)
-        × (length (now marks) ≡ 16)
-        × Block d n (now tray) (now starts) (now sizes)
-        × Fits d n (now ops) (now clean) (now t) w
-        × (used ≤ 256)
-        × (used * w ≤ length (now out)) ⌝ }
-    ensures { λ r. ⌜ ShotRows d n (operationsOf d n (now (ops .entry))) (cleanEnd (now (t .entry)) (now (clean .entry))) (laneErrors (now (tray .entry)) (now (starts .entry)) (now (sizes .entry))) w used (now (out .entry)) (now (out .exit))
-        × (r ≡ shiftedBy d n (operationsOf d n (now (ops .entry))) (cleanEnd (now (t .entry)) (now (clean .entry))) (laneErrors (now (tray .entry)) (now (starts .entry)) (now (sizes .entry))) used) ⌝ }
+    requires { ⌜ NewLanes (now v) (now slots) (now counts) (now cursors)
+        × TileRoom (now tile) (now spare) (now marks)
+        × LaneBodies d n (now tray) (now starts) (now sizes)
+        × CleanShots d n (now ops) (now clean) (now t) w
+        × ShotsRoom w used (now out) ⌝ }
+    ensures { λ r. ⌜ LaneRows d n (now (ops .entry)) (now (clean .entry)) (now (t .entry)) (now (tray .entry)) (now (starts .entry)) (now (sizes .entry)) w used (now (out .entry)) (now (out .exit))
+        × (r ≡ shiftedInLanes d n (now (ops .entry)) (now (clean .entry)) (now (t .entry)) (now (tray .entry)) (now (starts .entry)) (now (sizes .entry)) used) ⌝ }
 {
-    file(slots, counts);
+    enqueue_all(slots, counts);
     block::run(
         out,
         v,
@@ -74,10 +68,10 @@ fn fill_in(
         d,
         n,
     );
-    verdicts::judge(out, v, t, w, used, d, n)
+    verdicts::write_verdicts(out, v, t, w, used, d, n)
 }
 
-// The same with room for the lanes.
+// One block, with buffers of its own for the lanes, their calendar and their results.
 pub fn fill(
     out: &mut [u8],
     tray: &[u8],
@@ -91,12 +85,11 @@ pub fn fill(
     d: u8,
     n: usize,
 ) -> usize
-    requires { ⌜ Block d n (now tray) (now starts) (now sizes)
-        × Fits d n (now ops) (now clean) (now t) w
-        × (used ≤ 256)
-        × (used * w ≤ length (now out)) ⌝ }
-    ensures { λ r. ⌜ ShotRows d n (operationsOf d n (now (ops .entry))) (cleanEnd (now (t .entry)) (now (clean .entry))) (laneErrors (now (tray .entry)) (now (starts .entry)) (now (sizes .entry))) w used (now (out .entry)) (now (out .exit))
-        × (r ≡ shiftedBy d n (operationsOf d n (now (ops .entry))) (cleanEnd (now (t .entry)) (now (clean .entry))) (laneErrors (now (tray .entry)) (now (starts .entry)) (now (sizes .entry))) used) ⌝ }
+    requires { ⌜ LaneBodies d n (now tray) (now starts) (now sizes)
+        × CleanShots d n (now ops) (now clean) (now t) w
+        × ShotsRoom w used (now out) ⌝ }
+    ensures { λ r. ⌜ LaneRows d n (now (ops .entry)) (now (clean .entry)) (now (t .entry)) (now (tray .entry)) (now (starts .entry)) (now (sizes .entry)) w used (now (out .entry)) (now (out .exit))
+        × (r ≡ shiftedInLanes d n (now (ops .entry)) (now (clean .entry)) (now (t .entry)) (now (tray .entry)) (now (starts .entry)) (now (sizes .entry)) used) ⌝ }
 {
     let mut v = [0u8; 32768];
     let mut slots = [0u8; 65536];

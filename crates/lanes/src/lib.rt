@@ -1,22 +1,15 @@
 // Gates and errors on the frames of 256 shots side by side: for each gate what it does to one lane, and a loop over the lanes, which
 // vectorises.
-ghost use mathlib.Core.Path.{_≡_};
-ghost use Prim.Native.Nat.{_*_, _<_, _≤_};
-ghost use lib.ListN.{length};
+ghost use Prim.Native.Nat.{_<_};
 ghost use Rattle.modular.specs.Modular.{Reciprocal};
-ghost use Rattle.modular.specs.Dimension.{inverse};
-ghost use Rattle.row.specs.Row.{Powers};
 ghost use Rattle.operation.specs.declared.Operation.the-variants.{Fourier, PhaseGate, Sum, Cz, Swap, Multiplier};
 ghost use Rattle.operation.specs.Gate.{gatePowers};
 ghost use Rattle.operation.specs.Error.{errorFrame};
-ghost use Rattle.lanes.specs.Lanes.{lane, Lanes, Each, Alone};
+ghost use Rattle.lanes.specs.Lanes.{Lanes, LaneFrame, InverseOf, Each, Alone};
 use operation::WeylError;
 
 fn fourier_lane(v: &mut [u8], q: usize, k: u8, l: usize, d: u8, n: usize)
-    requires { ⌜ (n ≤ 64)
-        × (l < 256)
-        × (512 * n ≤ length (now v))
-        × Powers d n (lane n (now v) l)
+    requires { ⌜ LaneFrame d n l (now v)
         × (q < n) ⌝ }
     ensures { λ _. ⌜ Alone (gatePowers d n (Fourier q k)) n l (now (v .entry)) (now (v .exit)) ⌝ }
 {
@@ -24,12 +17,13 @@ fn fourier_lane(v: &mut [u8], q: usize, k: u8, l: usize, d: u8, n: usize)
     let z = 256 * (n + q) + l;
     let a = v[x];
     let b = v[z];
-    v[x] = frames::fourier_x(d, k, a, b);
-    v[z] = frames::fourier_z(d, k, a, b);
+    v[x] = frame_powers::fourier_x(d, k, a, b);
+    v[z] = frame_powers::fourier_z(d, k, a, b);
 }
 
 pub fn fourier_lanes(v: &mut [u8], q: usize, k: u8, d: u8, n: usize)
-    requires { ⌜ (n ≤ 64) × Lanes d n (now v) × (q < n) ⌝ }
+    requires { ⌜ Lanes d n (now v)
+        × (q < n) ⌝ }
     ensures { λ _. ⌜ Each (gatePowers d n (Fourier q k)) n (now (v .entry)) (now (v .exit)) ⌝ }
 {
     for l in 0..256 {
@@ -38,10 +32,7 @@ pub fn fourier_lanes(v: &mut [u8], q: usize, k: u8, d: u8, n: usize)
 }
 
 fn phase_gate_lane(v: &mut [u8], q: usize, k: u8, l: usize, d: u8, m: u16, n: usize)
-    requires { ⌜ (n ≤ 64)
-        × (l < 256)
-        × (512 * n ≤ length (now v))
-        × Powers d n (lane n (now v) l)
+    requires { ⌜ LaneFrame d n l (now v)
         × (q < n)
         × (k < d)
         × Reciprocal d m ⌝ }
@@ -53,7 +44,10 @@ fn phase_gate_lane(v: &mut [u8], q: usize, k: u8, l: usize, d: u8, m: u16, n: us
 }
 
 pub fn phase_gate_lanes(v: &mut [u8], q: usize, k: u8, d: u8, m: u16, n: usize)
-    requires { ⌜ (n ≤ 64) × Lanes d n (now v) × (q < n) × (k < d) × Reciprocal d m ⌝ }
+    requires { ⌜ Lanes d n (now v)
+        × (q < n)
+        × (k < d)
+        × Reciprocal d m ⌝ }
     ensures { λ _. ⌜ Each (gatePowers d n (PhaseGate q k)) n (now (v .entry)) (now (v .exit)) ⌝ }
 {
     for l in 0..256 {
@@ -62,10 +56,7 @@ pub fn phase_gate_lanes(v: &mut [u8], q: usize, k: u8, d: u8, m: u16, n: usize)
 }
 
 fn sum_lane(v: &mut [u8], c: usize, t: usize, k: u8, l: usize, d: u8, m: u16, n: usize)
-    requires { ⌜ (n ≤ 64)
-        × (l < 256)
-        × (512 * n ≤ length (now v))
-        × Powers d n (lane n (now v) l)
+    requires { ⌜ LaneFrame d n l (now v)
         × (c < n)
         × (t < n)
         × (k < d)
@@ -83,7 +74,11 @@ fn sum_lane(v: &mut [u8], c: usize, t: usize, k: u8, l: usize, d: u8, m: u16, n:
 }
 
 pub fn sum_lanes(v: &mut [u8], c: usize, t: usize, k: u8, d: u8, m: u16, n: usize)
-    requires { ⌜ (n ≤ 64) × Lanes d n (now v) × (c < n) × (t < n) × (k < d) × Reciprocal d m ⌝ }
+    requires { ⌜ Lanes d n (now v)
+        × (c < n)
+        × (t < n)
+        × (k < d)
+        × Reciprocal d m ⌝ }
     ensures { λ _. ⌜ Each (gatePowers d n (Sum c t k)) n (now (v .entry)) (now (v .exit)) ⌝ }
 {
     for l in 0..256 {
@@ -92,10 +87,7 @@ pub fn sum_lanes(v: &mut [u8], c: usize, t: usize, k: u8, d: u8, m: u16, n: usiz
 }
 
 fn cz_lane(v: &mut [u8], c: usize, t: usize, k: u8, l: usize, d: u8, m: u16, n: usize)
-    requires { ⌜ (n ≤ 64)
-        × (l < 256)
-        × (512 * n ≤ length (now v))
-        × Powers d n (lane n (now v) l)
+    requires { ⌜ LaneFrame d n l (now v)
         × (c < n)
         × (t < n)
         × (k < d)
@@ -113,7 +105,11 @@ fn cz_lane(v: &mut [u8], c: usize, t: usize, k: u8, l: usize, d: u8, m: u16, n: 
 }
 
 pub fn cz_lanes(v: &mut [u8], c: usize, t: usize, k: u8, d: u8, m: u16, n: usize)
-    requires { ⌜ (n ≤ 64) × Lanes d n (now v) × (c < n) × (t < n) × (k < d) × Reciprocal d m ⌝ }
+    requires { ⌜ Lanes d n (now v)
+        × (c < n)
+        × (t < n)
+        × (k < d)
+        × Reciprocal d m ⌝ }
     ensures { λ _. ⌜ Each (gatePowers d n (Cz c t k)) n (now (v .entry)) (now (v .exit)) ⌝ }
 {
     for l in 0..256 {
@@ -122,10 +118,7 @@ pub fn cz_lanes(v: &mut [u8], c: usize, t: usize, k: u8, d: u8, m: u16, n: usize
 }
 
 fn swap_lane(v: &mut [u8], c: usize, t: usize, l: usize, d: u8, n: usize)
-    requires { ⌜ (n ≤ 64)
-        × (l < 256)
-        × (512 * n ≤ length (now v))
-        × Powers d n (lane n (now v) l)
+    requires { ⌜ LaneFrame d n l (now v)
         × (c < n)
         × (t < n) ⌝ }
     ensures { λ _. ⌜ Alone (gatePowers d n (Swap c t)) n l (now (v .entry)) (now (v .exit)) ⌝ }
@@ -145,7 +138,9 @@ fn swap_lane(v: &mut [u8], c: usize, t: usize, l: usize, d: u8, n: usize)
 }
 
 pub fn swap_lanes(v: &mut [u8], c: usize, t: usize, d: u8, n: usize)
-    requires { ⌜ (n ≤ 64) × Lanes d n (now v) × (c < n) × (t < n) ⌝ }
+    requires { ⌜ Lanes d n (now v)
+        × (c < n)
+        × (t < n) ⌝ }
     ensures { λ _. ⌜ Each (gatePowers d n (Swap c t)) n (now (v .entry)) (now (v .exit)) ⌝ }
 {
     for l in 0..256 {
@@ -154,14 +149,9 @@ pub fn swap_lanes(v: &mut [u8], c: usize, t: usize, d: u8, n: usize)
 }
 
 fn multiplier_lane(v: &mut [u8], q: usize, u: u8, w: u8, m: u16, l: usize, d: u8, n: usize)
-    requires { ⌜ (n ≤ 64)
-        × (l < 256)
-        × (512 * n ≤ length (now v))
-        × Powers d n (lane n (now v) l)
+    requires { ⌜ LaneFrame d n l (now v)
         × (q < n)
-        × (u < d)
-        × (w ≡ inverse d u)
-        × (w < d)
+        × InverseOf d u w
         × Reciprocal d m ⌝ }
     ensures { λ _. ⌜ Alone (gatePowers d n (Multiplier q u)) n l (now (v .entry)) (now (v .exit)) ⌝ }
 {
@@ -174,12 +164,9 @@ fn multiplier_lane(v: &mut [u8], q: usize, u: u8, w: u8, m: u16, l: usize, d: u8
 }
 
 pub fn multiplier_lanes(v: &mut [u8], q: usize, u: u8, w: u8, m: u16, d: u8, n: usize)
-    requires { ⌜ (n ≤ 64)
-        × Lanes d n (now v)
+    requires { ⌜ Lanes d n (now v)
         × (q < n)
-        × (u < d)
-        × (w ≡ inverse d u)
-        × (w < d)
+        × InverseOf d u w
         × Reciprocal d m ⌝ }
     ensures { λ _. ⌜ Each (gatePowers d n (Multiplier q u)) n (now (v .entry)) (now (v .exit)) ⌝ }
 {
@@ -190,11 +177,7 @@ pub fn multiplier_lanes(v: &mut [u8], q: usize, u: u8, w: u8, m: u16, d: u8, n: 
 
 // The error on lane l.
 pub fn error_lane(v: &mut [u8], e: WeylError, l: usize, d: u8, n: usize)
-    requires { ⌜ (n ≤ 64)
-        × (l < 256)
-        × (512 * n ≤ length (now v))
-        × Powers d n (lane n (now v) l)
-        × (d ≤ 31)
+    requires { ⌜ LaneFrame d n l (now v)
         × (e .qudit < n)
         × (e .p < d)
         × (e .s < d) ⌝ }

@@ -1,14 +1,12 @@
 -- The layer of the zero tableau.
 use mathlib.Core.Bool.{cond}
 use mathlib.Core.List.{List}
-use Prim.Native.Nat.{ℕ, _+_, _*_}
-use lib.Dec.{eqb, leb}
-use lib.ListN.{length}
-use Rattle.modular.specs.Dimension.{listed}
+use Prim.Native.Nat.{ℕ}
+use lib.Dec.{eqb}
 use Rattle.row.specs.Row.{rowOf}
 use Rattle.row.specs.Generators.{unit}
-use Rattle.search.specs.Search.{unless}
-use Rattle.tableau.specs.Tableau.{sized, onRows}
+use Rattle.tableau.specs.Tableau.{onRows}
+use Rattle.answer.specs.Shape.{shapeNumber}
 
 -- Zero tableau: destabilizer i is X on qudit i, stabilizer i is Z on it, phases 0. So row i has power 1 at i, and else 0.
 abbrev pub zeroRow : ℕ → ℕ → List ℕ → List ℕ
@@ -19,7 +17,7 @@ zeroTableau n t = onRows n (zeroRow n) t
 
 -- The layer: 2, 3, 8; a refusal leaves the buffer unchanged.
 unfoldable pub layerNumber : ℕ → ℕ → List ℕ → ℕ
-layerNumber d n t = unless (listed d) 2 (unless (sized n) 3 (unless (leb (2 * n * (2 * n + 1)) (length t)) 8 0))
+layerNumber d n t = shapeNumber d n t 0
 
 unfoldable pub layerLeaves : ℕ → ℕ → List ℕ → List ℕ
 layerLeaves d n t = cond (eqb (layerNumber d n t) 0) (zeroTableau n t) t

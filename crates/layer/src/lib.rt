@@ -6,11 +6,12 @@ ghost use Rattle.row.specs.Row.{rowOf};
 ghost use Rattle.row.specs.Generators.{unit};
 ghost use Rattle.tableau.specs.Tableau.{put};
 ghost use Rattle.layer.specs.Layer.{zeroTableau, layerNumber, layerLeaves};
-use tableau::Answer;
+use answer::Answer;
 
 // Row i of the zero tableau.
 fn zero_at(t: &mut [u8], i: usize, n: usize)
-    requires { ⌜ (i < 2 * n) × (i * (2 * n + 1) + (2 * n + 1) ≤ length (now t)) ⌝ }
+    requires { ⌜ (i < 2 * n)
+        × (i * (2 * n + 1) + (2 * n + 1) ≤ length (now t)) ⌝ }
     ensures { λ _. ⌜ now (t .exit) ≡ put (i * (2 * n + 1)) (2 * n + 1) (rowOf n (unit i) 0) (now (t .entry)) ⌝ }
 {
     let w = 2 * n + 1;
@@ -21,7 +22,8 @@ fn zero_at(t: &mut [u8], i: usize, n: usize)
 
 // Every row of the zero tableau.
 pub fn zero_rows(t: &mut [u8], n: usize)
-    requires { ⌜ (n ≤ 64) × (2 * n * (2 * n + 1) ≤ length (now t)) ⌝ }
+    requires { ⌜ (n ≤ 64)
+        × (2 * n * (2 * n + 1) ≤ length (now t)) ⌝ }
     ensures { λ _. ⌜ now (t .exit) ≡ zeroTableau n (now (t .entry)) ⌝ }
 {
     let rows = 2 * n;
@@ -34,29 +36,13 @@ pub fn zero_rows(t: &mut [u8], n: usize)
 
 // Lays the zero tableau of n qudits of dimension d, or refuses by 2, 3 or 8.
 pub fn lay(t: &mut [u8], d: usize, n: usize) -> Answer
-    ensures { λ r. ⌜ (r ≡ record { number = layerNumber d n (now (t .entry)); place = 0 }) × (now (t .exit) ≡ layerLeaves d n (now (t .entry))) ⌝ }
+    ensures { λ r. ⌜ (r ≡ record { number = layerNumber d n (now (t .entry)); place = 0 })
+        × (now (t .exit) ≡ layerLeaves d n (now (t .entry))) ⌝ }
 {
-    if !modular::is_listed(d) {
-        return Answer {
-            number: 2,
-            place: 0,
-        };
-    }
-    if !tableau::is_sized(n) {
-        return Answer {
-            number: 3,
-            place: 0,
-        };
-    }
-    if t.len() < 2 * n * (2 * n + 1) {
-        return Answer {
-            number: 8,
-            place: 0,
-        };
+    let number = answer::shape_number(t, d, n);
+    if number != 0 {
+        return Answer { number, place: 0 };
     }
     zero_rows(t, n);
-    Answer {
-        number: 0,
-        place: 0,
-    }
+    Answer { number, place: 0 }
 }

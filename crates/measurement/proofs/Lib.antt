@@ -1,7 +1,4 @@
--- Measurements of valid tableaus.
+-- What other proofs use, and worked cases.
 pub mod Combination
-pub mod Looks
-pub mod Certain
-pub mod Free
-pub mod Generates
-pub mod Sets
+pub mod Collapsed
+pub mod Worked

@@ -1,2 +1,2 @@
-pub mod Stabilizers
-pub mod Measurement
+pub mod Look
+pub mod Collapse

@@ -61,14 +61,14 @@ unfolding gateRow gatePowers gatePhase inverse powerOf
 multiplier = refl
 
 -- X^3 Z^2 on qudit 1
-abbrev strike : WeylError
-strike = record { place = 0; qudit = 1; p = 3; s = 2 }
+abbrev error : WeylError
+error = record { place = 0; qudit = 1; p = 3; s = 2 }
 
-struck : errorRow 5 2 strike row ≡ 1 ∷ 2 ∷ 3 ∷ 4 ∷ 3 ∷ []
+after-error : errorRow 5 2 error row ≡ 1 ∷ 2 ∷ 3 ∷ 4 ∷ 3 ∷ []
 unfolding errorRow
-struck = refl
+after-error = refl
 
-framed : errorFrame 5 2 strike (1 ∷ 2 ∷ 3 ∷ 4 ∷ []) ≡ 1 ∷ 0 ∷ 3 ∷ 1 ∷ []
+framed : errorFrame 5 2 error (1 ∷ 2 ∷ 3 ∷ 4 ∷ []) ≡ 1 ∷ 0 ∷ 3 ∷ 1 ∷ []
 unfolding errorFrame
 framed = refl
 

@@ -11,7 +11,8 @@ pub enum Place {
 
 // 1 where the test holds, else 0.
 pub fn one_if(test: bool) -> usize
-    ensures { λ r. ⌜ (r ≡ cond test 1 0) × (r ≤ 1) ⌝ }
+    ensures { λ r. ⌜ (r ≡ cond test 1 0)
+        × (r ≤ 1) ⌝ }
 {
     if test { 1 } else { 0 }
 }

@@ -1,4 +1,4 @@
--- A book and trays that must be told so: antt computes each.
+-- A book and trays, and what is returned for them: antt computes each.
 -- Assumes nothing.
 use mathlib.Core.Path.{_≡_, refl}
 use mathlib.Core.List.{List, [], _∷_, _++_}
@@ -11,19 +11,19 @@ use Rattle.row.specs.Generators.{zWith}
 use Rattle.tableau.specs.Tableau.{part, put, eachRow}
 use Rattle.operation.specs.Gate.{gatePowers, gatePhase, gateRow}
 use Rattle.operation.specs.Error.{errorFrame}
-use Rattle.weyl.specs.Scalar.{scalar}
+use Rattle.row_laws.specs.Scalar.{scalar}
 use Rattle.validity.specs.Validity.{rowValid, valid}
-use Rattle.outcome.specs.Look.{pivotOf, combination, weighted, look}
-use Rattle.outcome.specs.Collapse.{collapseRow, collapse}
+use Rattle.measurement.specs.Look.{pivotOf, combination, weighted, look}
+use Rattle.measurement.specs.Collapse.{collapseRow, collapse}
 use Rattle.circuit.specs.Circuit.{measured}
-use Rattle.entries.specs.Entry.{decoded, errorAt}
-use Rattle.body.specs.Body.{badOperation, measurements, goodError, badError, badChoice, readBodies}
-use Rattle.book.specs.Book.{headed, entryFits, badContents, readBook, bodyOf}
+use Rattle.book_entries.specs.Entry.{decoded, errorAt}
+use Rattle.book_body.specs.Body.{badOperation, measurements, goodError, badError, badChoice, readBodies}
+use Rattle.book.specs.Book.{headerFits, entryFits, badContents, readBook, bodyOf}
 use Rattle.book.specs.Decoded.{operationsOf, errorsOf}
-use Rattle.run.specs.Run.{onward, noted}
-use Rattle.run.specs.Frame.{strikeFrame, shiftRow, verdictOf, framedLook, framedKind, framedStrike, framedStep, framedAll, framedLeave, frameRunFrom, frameRun}
-use Rattle.tray.specs.Tray.{startOf, tabled, badShot}
-use Rattle.shots.specs.Shots.{shotRow, cleanAmong, shiftedAmong, trayRoomy, trayTold, trayBook}
+use Rattle.runs.specs.Run.{stepsFrom, withResult}
+use Rattle.runs.specs.Frame.{errorsOnFrame, shiftRow, verdictOf, frameLook, frameKind, frameErrors, frameStep, frameSteps, frameLeaves, frameRunFrom, frameRun}
+use Rattle.tray.specs.Tray.{startOf, tableFits, badShot}
+use Rattle.shots.specs.Shots.{shotRow, cleanAmong, shiftedAmong, trayBuffersFit, trayByAnswer, trayBook}
 
 -- d 3, n 1; a measurement, Fourier and a measurement, with the choices 1 and 2; at place 2 an X error, which no shot has
 abbrev book : List ℕ
@@ -43,7 +43,7 @@ abbrev sevens : ℕ → List ℕ
 sevens k = replicate k 7
 
 -- the first outcome is 0 and certain, the second 2 and free, shifted by 1 and by 2; one byte more is lent, and kept
-pub told :
+pub returned :
     (trayBook book tray t (sevens 16)
     ≡ record {
       number = 0;
@@ -52,8 +52,8 @@ pub told :
       out = 0 ∷ 0 ∷ 0 ∷ 2 ∷ 1 ∷ 1 ∷ 0 ∷ 0 ∷ 0 ∷ 1 ∷ 1 ∷ 0 ∷ 0 ∷ 1 ∷ 1 ∷ 7 ∷ [];
     })
     × (trayBook book (0 ∷ 0 ∷ []) t (sevens 1) ≡ record { number = 0; place = 0; shifted = 0; out = 7 ∷ [] })
-unfolding listed inverse powerOf all firstNot tab rowOf dot product power pairing zWith scalar part put eachRow gatePowers gatePhase gateRow errorFrame rowValid valid pivotOf combination weighted look collapseRow collapse measured decoded errorAt badOperation measurements goodError badError badChoice readBodies headed entryFits badContents readBook bodyOf operationsOf errorsOf onward noted strikeFrame shiftRow verdictOf framedLook framedKind framedStrike framedStep framedAll framedLeave frameRunFrom frameRun startOf tabled badShot shotRow cleanAmong shiftedAmong trayRoomy trayTold trayBook
-told = (refl, refl)
+unfolding listed inverse powerOf all firstNot tab rowOf dot product power pairing zWith scalar part put eachRow gatePowers gatePhase gateRow errorFrame rowValid valid pivotOf combination weighted look collapseRow collapse measured decoded errorAt badOperation measurements goodError badError badChoice readBodies headerFits entryFits badContents readBook bodyOf operationsOf errorsOf stepsFrom withResult errorsOnFrame shiftRow verdictOf frameLook frameKind frameErrors frameStep frameSteps frameLeaves frameRunFrom frameRun startOf tableFits badShot shotRow cleanAmong shiftedAmong trayBuffersFit trayByAnswer trayBook
+returned = (refl, refl)
 
 -- a tray that is refused leaves a buffer of so many sevens
 abbrev Refuses : (tray t : List ℕ) (size number place : ℕ) → Type 0
@@ -67,5 +67,5 @@ bad = set tray 16 3
 -- 11 before 6, 6 before 8, 8 before 9; 6 names the shot
 pub refusals :
     Refuses (bad ++ (0 ∷ [])) t 15 11 0 × Refuses bad [] 14 6 2 × Refuses tray (set t 0 2) 14 8 0 × Refuses tray (set t 0 2) 15 9 0
-unfolding listed all firstNot tab dot pairing part eachRow rowValid valid measured decoded errorAt badOperation measurements goodError badError badChoice readBodies headed entryFits badContents readBook bodyOf operationsOf startOf tabled badShot trayRoomy trayTold trayBook
+unfolding listed all firstNot tab dot pairing part eachRow rowValid valid measured decoded errorAt badOperation measurements goodError badError badChoice readBodies headerFits entryFits badContents readBook bodyOf operationsOf startOf tableFits badShot trayBuffersFit trayByAnswer trayBook
 refusals = (refl, refl, refl, refl)

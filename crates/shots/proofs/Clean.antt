@@ -9,12 +9,12 @@ use lib.Seq.{take-all}
 use Rattle.operation.specs.declared.Operation.{Operation}
 use Rattle.operation.specs.declared.WeylError.{WeylError}
 use Rattle.circuit.specs.Circuit.{measured}
-use Rattle.run.specs.Direct.{State, directRun}
-use Rattle.run.specs.Frame.{Ended, noFrame, verdictOf, framedLeave, frameRun}
-use Rattle.run.specs.Raised.{finalFrame, resultShifts}
-use Rattle.run.proofs.Results.{direct-results}
-use Rattle.run.proofs.Carry.{with-length, with-first}
-use Rattle.carrying.proofs.Clean.{frame-is-clean}
+use Rattle.runs.specs.Direct.{State, directRun}
+use Rattle.runs.specs.Frame.{FrameEnd, noFrame, verdictOf, frameLeaves, frameRun}
+use Rattle.runs.specs.Raised.{finalFrame, resultShifts}
+use Rattle.runs.proofs.Results.{direct-results}
+use Rattle.runs.proofs.Carry.{with-length, with-first}
+use Rattle.run_laws.proofs.Clean.{frame-is-clean}
 use Rattle.shots.specs.Clean.{cleanPlus, CleanServes}
 
 module _ (d n : ℕ) (ops : List Operation) (errors : List WeylError) (choices : List ℕ) (st : State) (shifts frame : List ℕ)
@@ -22,30 +22,30 @@ module _ (d n : ℕ) (ops : List Operation) (errors : List WeylError) (choices :
   abbrev total : ℕ
   total = measured ops (length ops)
 
-  abbrev end : Ended
+  abbrev end : FrameEnd
   end = frameRun d n ops errors choices st shifts frame
 
   abbrev clean : State
   clean = directRun d n ops [] choices st
 
-  abbrev told : List ℕ
-  told = resultShifts d n ops errors 0 (noFrame n) (length ops)
+  abbrev shifts-of : List ℕ
+  shifts-of = resultShifts d n ops errors 0 (noFrame n) (length ops)
 
   -- The frame run keeps the length of the results.
   pub frame-results : length (end .results) ≡ length (st .results)
-  unfolding frameRun framedLeave
+  unfolding frameRun frameLeaves
   frame-results =
       let size = direct-results d n ops [] choices st in
-      ap (λ (x : Ended). length (x .results)) (frame-is-clean d n ops errors choices (noFrame n) st shifts frame room)
-      ∙ with-length d told total (clean .results) (omega arith)
+      ap (λ (x : FrameEnd). length (x .results)) (frame-is-clean d n ops errors choices (noFrame n) st shifts frame room)
+      ∙ with-length d shifts-of total (clean .results) (omega arith)
       ∙ size
 
   -- verdict and results of a frame run that was lent more bytes than it needs
-  pub told-first : end .verdict ∷ take (2 * total) (end .results) ≡ cleanPlus d n ops clean errors
-  unfolding frameRun framedLeave cleanPlus
-  told-first =
-      ap (λ (x : Ended). x .verdict ∷ take (2 * total) (x .results)) (frame-is-clean d n ops errors choices (noFrame n) st shifts frame room)
-      ∙ ap (_∷_ (verdictOf d n (finalFrame d n ops errors (noFrame n)) (clean .rows))) (with-first d told total (clean .results))
+  pub shifted-first : end .verdict ∷ take (2 * total) (end .results) ≡ cleanPlus d n ops clean errors
+  unfolding frameRun frameLeaves cleanPlus
+  shifted-first =
+      ap (λ (x : FrameEnd). x .verdict ∷ take (2 * total) (x .results)) (frame-is-clean d n ops errors choices (noFrame n) st shifts frame room)
+      ∙ ap (_∷_ (verdictOf d n (finalFrame d n ops errors (noFrame n)) (clean .rows))) (with-first d shifts-of total (clean .results))
 
 pub clean-serves : CleanServes
 clean-serves d n ops choices t errors =
@@ -55,4 +55,4 @@ clean-serves d n ops choices t errors =
     let end = frameRun d n ops errors choices start [] [] in
     let whole : take (2 * total) (end .results) ≡ end .results =
     take-all (2 * total) (end .results) (omega (arith, frame-results d n ops errors choices start [] [] room, length-replicate {A = ℕ} (2 * total) 0)) in
-    ap (_∷_ (end .verdict)) (sym whole) ∙ told-first d n ops errors choices start [] [] room
+    ap (_∷_ (end .verdict)) (sym whole) ∙ shifted-first d n ops errors choices start [] [] room

@@ -14,12 +14,12 @@ use Rattle.row.proofs.Fill.{tab-length, tab-get}
 use Rattle.operation.specs.declared.Operation.{Operation}
 use Rattle.operation.specs.Operation.{allowed}
 use Rattle.circuit.specs.Circuit.{opAt, measured}
-use Rattle.run.specs.Direct.{State}
-use Rattle.run.specs.Frame.{noFrame}
-use Rattle.run.specs.Raised.{resultShifts}
-use Rattle.run.specs.Carry.{toldAt}
-use Rattle.run.proofs.Carry.{told-byte}
-use Rattle.carrying.proofs.NoErrors.{shifts-none, final-clean}
+use Rattle.runs.specs.Direct.{State}
+use Rattle.runs.specs.Frame.{noFrame}
+use Rattle.runs.specs.Raised.{resultShifts}
+use Rattle.runs.specs.Carry.{shiftedByteAt}
+use Rattle.runs.proofs.Carry.{shifted-byte}
+use Rattle.run_laws.proofs.NoErrors.{shifts-none, final-clean}
 use Rattle.shots.specs.Clean.{cleanPlus}
 
 module _ (d n : ℕ) (dim : Dimension d) (ops : List Operation) (good : (k : ℕ) → k < length ops → allowed d n (opAt ops k) ≡ true) (clean : State)
@@ -31,9 +31,9 @@ module _ (d n : ℕ) (dim : Dimension d) (ops : List Operation) (good : (k : ℕ
   abbrev shifts : List ℕ
   shifts = resultShifts d n ops [] 0 (noFrame n) (length ops)
 
-  no-shift : (b : ℕ) → b < 2 * total → getD (clean .results) b 0 ≡ toldAt d (clean .results) shifts b
+  no-shift : (b : ℕ) → b < 2 * total → getD (clean .results) b 0 ≡ shiftedByteAt d (clean .results) shifts b
   no-shift =
-      told-byte d shifts (clean .results) total (λ b. getD (clean .results) b 0)
+      shifted-byte d shifts (clean .results) total (λ b. getD (clean .results) b 0)
       (λ j l.
       rw (shifts-none d n dim ops good (length ops) (le-refl (length ops)) j, add-zero (getD (clean .results) (2 * j) 0))
       (sym (mod-eq-of-lt (below j l))))
@@ -42,10 +42,10 @@ module _ (d n : ℕ) (dim : Dimension d) (ops : List Operation) (good : (k : ℕ
   pub clean-alone : cleanPlus d n ops clean [] ≡ 0 ∷ clean .results
   unfolding cleanPlus
   clean-alone =
-      let size : length (tab (toldAt d (clean .results) shifts) (2 * total)) ≡ 2 * total = tab-length (toldAt d (clean .results) shifts) (2 * total) in
-      let same : tab (toldAt d (clean .results) shifts) (2 * total) ≡ clean .results =
+      let size : length (tab (shiftedByteAt d (clean .results) shifts) (2 * total)) ≡ 2 * total = tab-length (shiftedByteAt d (clean .results) shifts) (2 * total) in
+      let same : tab (shiftedByteAt d (clean .results) shifts) (2 * total) ≡ clean .results =
       ext-getD 0 _ _ (size ∙ sym exact)
       (λ b l.
       let k : b < 2 * total = omega (arith, size) in
-      tab-get (toldAt d (clean .results) shifts) (2 * total) b 0 k ∙ sym (no-shift b k)) in
+      tab-get (shiftedByteAt d (clean .results) shifts) (2 * total) b 0 k ∙ sym (no-shift b k)) in
       rw (final-clean d n dim ops good (clean .rows), same)

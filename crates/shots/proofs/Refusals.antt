@@ -1,4 +1,4 @@
--- What holds of each refusal of a tray, and of what is told where nothing refuses, holds of what is left.
+-- What holds of each refusal of a tray, and of what is returned where nothing refuses, holds of what is left.
 -- Assumes nothing.
 use mathlib.Core.Path.{_≡_, refl}
 use mathlib.Core.Bool.{true}
@@ -8,48 +8,48 @@ use Rattle.search.specs.declared.Place.{Place}
 use Rattle.search.specs.declared.Place.the-variants.{At, Nowhere}
 use Rattle.search.proofs.Search.{unless-cases}
 use Rattle.validity.specs.Validity.{valid}
-use Rattle.body.specs.Body.{accepted}
+use Rattle.book_body.specs.Body.{accepted}
 use Rattle.book.specs.Book.{bodyOf}
 use Rattle.book.specs.Decoded.{operationsOf, measurementsIn}
 use Rattle.book.proofs.Answers.{read-cases}
-use Rattle.tray.specs.Tray.{shotsIn, tabled, badShot}
-use Rattle.shots.specs.Shots.{TrayLeft, turnedAway, shotsTold, at6, trayRoomy, trayTold, trayBook}
+use Rattle.tray.specs.Tray.{shotsIn, tableFits, badShot}
+use Rattle.shots.specs.Shots.{TrayLeft, trayRefused, trayEnded, refuse6, trayBuffersFit, trayByAnswer, trayBook}
 
 -- 11, the tray's 6, 8 and 9 let it through
 pub record Goes (d n operations : ℕ) (s tray t out : List ℕ) : Type 0 where
-  pub table : tabled tray ≡ true
+  pub table : tableFits tray ≡ true
   pub shots : badShot d n operations tray ≡ Nowhere
-  pub room : trayRoomy n (measurementsIn s d n) (shotsIn tray) t out ≡ true
+  pub room : trayBuffersFit n (measurementsIn s d n) (shotsIn tray) t out ≡ true
   pub rows : valid d n t ≡ true
 
 module _ (s tray t out : List ℕ) (P : TrayLeft → Type 0) where
   abbrev OnRefusal : ℕ → ℕ → Type 0
-  OnRefusal number place = P (turnedAway number place out)
+  OnRefusal number place = P (trayRefused number place out)
 
   abbrev OnSuccess : ℕ → ℕ → ℕ → Type 0
-  OnSuccess d n operations = Goes d n operations s tray t out → P (shotsTold d n (operationsOf d n (bodyOf s 1)) (bodyOf s 3) tray t out)
+  OnSuccess d n operations = Goes d n operations s tray t out → P (trayEnded d n (operationsOf d n (bodyOf s 1)) (bodyOf s 3) tray t out)
 
-  six-cases : {rest : TrayLeft} (p : Place) → ((k : ℕ) → OnRefusal 6 k) → (p ≡ Nowhere → P rest) → P (at6 p out rest)
+  six-cases : {rest : TrayLeft} (p : Place) → ((k : ℕ) → OnRefusal 6 k) → (p ≡ Nowhere → P rest) → P (refuse6 p out rest)
   six-cases (At k) six goes = six k
   six-cases Nowhere six goes = goes refl
 
   -- of a book that is accepted
   pub accepted-cases : (d n operations errors choices : ℕ) → OnRefusal 11 0 → ((k : ℕ) → OnRefusal 6 k) → OnRefusal 8 0 → OnRefusal 9 0
-      → OnSuccess d n operations → P (trayTold s tray t out (accepted d n operations errors choices))
-  unfolding trayTold
+      → OnSuccess d n operations → P (trayByAnswer s tray t out (accepted d n operations errors choices))
+  unfolding trayByAnswer
   accepted-cases d n operations errors choices eleven six eight nine goes =
-      unless-cases P (tabled tray) (λ _. eleven)
+      unless-cases P (tableFits tray) (λ _. eleven)
       (λ a.
       six-cases (badShot d n operations tray) six
       (λ b.
-      unless-cases P (trayRoomy n (measurementsIn s d n) (shotsIn tray) t out) (λ _. eight)
+      unless-cases P (trayBuffersFit n (measurementsIn s d n) (shotsIn tray) t out) (λ _. eight)
       (λ c. unless-cases P (valid d n t) (λ _. nine) (λ e. goes (record { table = a; shots = b; room = c; rows = e })))))
 
   -- of any book
   pub tray-cases : OnRefusal 1 0 → OnRefusal 2 0 → OnRefusal 3 0 → ((k : ℕ) → OnRefusal 4 k) → ((k : ℕ) → OnRefusal 5 k)
       → ((k : ℕ) → OnRefusal 6 k) → ((k : ℕ) → OnRefusal 7 k) → OnRefusal 8 0 → OnRefusal 9 0 → OnRefusal 11 0
       → ((d n operations : ℕ) → OnSuccess d n operations) → P (trayBook s tray t out)
-  unfolding trayBook trayTold
+  unfolding trayBook trayByAnswer
   tray-cases one two three four five six seven eight nine eleven goes =
-      read-cases (λ x. P (trayTold s tray t out x)) one two three four five six seven
+      read-cases (λ x. P (trayByAnswer s tray t out x)) one two three four five six seven
       (λ d n o e c. accepted-cases d n o e c eleven six eight nine (goes d n o)) s

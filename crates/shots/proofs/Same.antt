@@ -15,15 +15,15 @@ use Rattle.row.proofs.Fill.{tab-length, tab-get}
 use Rattle.operation.specs.declared.Operation.{Operation}
 use Rattle.operation.specs.declared.WeylError.{WeylError}
 use Rattle.circuit.specs.Circuit.{measured}
-use Rattle.run.specs.Direct.{State}
-use Rattle.run.specs.Frame.{noFrame, noShift, verdictOf, frameRun}
-use Rattle.run.specs.Raised.{finalFrame, resultShifts}
-use Rattle.carrying.proofs.Window.{Window, window-of}
-use Rattle.carrying.proofs.Told.{told-none, told-bytes, Equal}
-use Rattle.carrying.proofs.Buffers.{Twin, twin-run}
+use Rattle.runs.specs.Direct.{State}
+use Rattle.runs.specs.Frame.{noFrame, noShift, verdictOf, frameRun}
+use Rattle.runs.specs.Raised.{finalFrame, resultShifts}
+use Rattle.run_laws.proofs.Window.{Window, window-of}
+use Rattle.run_laws.proofs.Results.{related-none, shifted-bytes, Equal}
+use Rattle.run_laws.proofs.Buffers.{Twin, twin-run}
 use Rattle.shots.specs.Shots.{shotBytes, shotRun}
 use Rattle.shots.specs.Clean.{cleanPlus}
-use Rattle.shots.proofs.Clean.{told-first, clean-serves}
+use Rattle.shots.proofs.Clean.{shifted-first, clean-serves}
 
 verdict-same : (d n : ℕ) (F t u : List ℕ) → Window n t u → verdictOf d n F t ≡ verdictOf d n F u
 unfolding verdictOf
@@ -42,7 +42,7 @@ unfolding cleanPlus
 plus-same d n ops A B errors h =
     ap₂ _∷_ (sym (verdict-same d n (finalFrame d n ops errors (noFrame n)) (A .rows) (B .rows) (h .rows)))
     (tab-same _ _ (2 * measured ops (length ops))
-    (λ b l. ap (λ (x : ℕ). cond (eqb (b % 2) 0) ((x + getD (resultShifts d n ops errors 0 (noFrame n) (length ops)) (b / 2) 0) % d) x) (told-bytes (h .results) b l)))
+    (λ b l. ap (λ (x : ℕ). cond (eqb (b % 2) 0) ((x + getD (resultShifts d n ops errors 0 (noFrame n) (length ops)) (b / 2) 0) % d) x) (shifted-bytes (h .results) b l)))
 
 -- a shot is the frame run in any lent buffers that are long enough
 pub shot-any : (d n : ℕ) → 1 < d → (ops : List Operation) (errors : List WeylError) (choices t results shifts frame : List ℕ)
@@ -58,7 +58,7 @@ shot-any d n low ops errors choices t results shifts frame room long =
     let own : 2 * total ≤ length blank = omega arith in
     let twins =
     twin-run d n low ops [] choices {A = lent} {B = record { rows = t; results = blank }}
-    (record { rows = window-of n room room (λ i l. refl); results = told-none Equal total long own }) in
+    (record { rows = window-of n room room (λ i l. refl); results = related-none Equal total long own }) in
     clean-serves d n ops choices t errors
     ∙ plus-same d n ops _ _ errors twins
-    ∙ sym (told-first d n ops errors choices lent shifts frame long)
+    ∙ sym (shifted-first d n ops errors choices lent shifts frame long)

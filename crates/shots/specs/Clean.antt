@@ -7,17 +7,17 @@ use Rattle.row.specs.Row.{tab}
 use Rattle.operation.specs.declared.Operation.{Operation}
 use Rattle.operation.specs.declared.WeylError.{WeylError}
 use Rattle.circuit.specs.Circuit.{measured}
-use Rattle.run.specs.Direct.{State, directRun}
-use Rattle.run.specs.Frame.{noFrame, verdictOf}
-use Rattle.run.specs.Raised.{finalFrame, resultShifts}
-use Rattle.run.specs.Carry.{toldAt}
+use Rattle.runs.specs.Direct.{State, directRun}
+use Rattle.runs.specs.Frame.{noFrame, verdictOf}
+use Rattle.runs.specs.Raised.{finalFrame, resultShifts}
+use Rattle.runs.specs.Carry.{shiftedByteAt}
 use Rattle.shots.specs.Shots.{shotBytes, shotRun}
 
 -- verdict and results of a shot, from the clean run's end
 unfoldable pub cleanPlus : ℕ → ℕ → List Operation → State → List WeylError → List ℕ
 cleanPlus d n ops clean errors =
     verdictOf d n (finalFrame d n ops errors (noFrame n)) (clean .rows)
-    ∷ tab (toldAt d (clean .results) (resultShifts d n ops errors 0 (noFrame n) (length ops))) (2 * measured ops (length ops))
+    ∷ tab (shiftedByteAt d (clean .results) (resultShifts d n ops errors 0 (noFrame n) (length ops))) (2 * measured ops (length ops))
 
 -- the clean run
 abbrev pub cleanRun : ℕ → ℕ → List Operation → List ℕ → List ℕ → State

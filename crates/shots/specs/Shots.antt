@@ -12,24 +12,24 @@ use Rattle.validity.specs.Validity.{valid}
 use Rattle.operation.specs.declared.Operation.{Operation}
 use Rattle.operation.specs.declared.WeylError.{WeylError}
 use Rattle.circuit.specs.Circuit.{measured}
-use Rattle.body.specs.Body.{Told, refused, accepted}
+use Rattle.book_body.specs.Body.{ReaderAnswer, refused, accepted}
 use Rattle.book.specs.Book.{readBook, bodyOf}
 use Rattle.book.specs.Decoded.{operationsOf, errorsOf, measurementsIn}
-use Rattle.run.specs.Frame.{Ended, frameRun}
-use Rattle.tray.specs.Tray.{shotsIn, shotBody, tabled, badShot}
+use Rattle.runs.specs.Frame.{FrameEnd, frameRun}
+use Rattle.tray.specs.Tray.{shotsIn, shotBody, tableFits, badShot}
 
 -- Per shot one verdict byte, and then 2 bytes per measurement.
-abbrev pub shotBytes : Ended → List ℕ
+abbrev pub shotBytes : FrameEnd → List ℕ
 shotBytes end = end .verdict ∷ end .results
 
 -- The circuit's choices serve every shot, and the starting tableau t is used anew for each.
 module _ (d n : ℕ) (ops : List Operation) (choices t : List ℕ) where
-  abbrev pub shotRun : List WeylError → Ended
+  abbrev pub shotRun : List WeylError → FrameEnd
   shotRun errors =
       frameRun d n ops errors choices (record { rows = t; results = replicate (2 * measured ops (length ops)) 0 }) [] []
 
   module _ (tray : List ℕ) where
-    abbrev pub runOf : ℕ → Ended
+    abbrev pub runOf : ℕ → FrameEnd
     runOf i = shotRun (errorsOf (shotBody tray i))
 
     -- what shot i's row becomes, whatever it held
@@ -57,16 +57,16 @@ pub record TrayLeft : Type 0 where
   pub out : List ℕ
 
 -- A refusal's third number is 0, and nothing is written.
-abbrev pub turnedAway : ℕ → ℕ → List ℕ → TrayLeft
-turnedAway number place out = record { number = number; place = place; shifted = 0; out = out }
+abbrev pub trayRefused : ℕ → ℕ → List ℕ → TrayLeft
+trayRefused number place out = record { number = number; place = place; shifted = 0; out = out }
 
 -- 8: tableau or output is shorter than it must be. Needed: tableau 2n(2n+1) bytes; output, per shot, 1 and 2 per measurement.
-unfoldable pub trayRoomy : ℕ → ℕ → ℕ → List ℕ → List ℕ → Bool
-trayRoomy n measurements shots t out = leb (2 * n * (2 * n + 1)) (length t) && leb (shots * (1 + 2 * measurements)) (length out)
+unfoldable pub trayBuffersFit : ℕ → ℕ → ℕ → List ℕ → List ℕ → Bool
+trayBuffersFit n measurements shots t out = leb (2 * n * (2 * n + 1)) (length t) && leb (shots * (1 + 2 * measurements)) (length out)
 
 -- Success returns 0, how many were clean and how many shifted.
-abbrev pub shotsTold : ℕ → ℕ → List Operation → List ℕ → List ℕ → List ℕ → List ℕ → TrayLeft
-shotsTold d n ops choices tray t out =
+abbrev pub trayEnded : ℕ → ℕ → List Operation → List ℕ → List ℕ → List ℕ → List ℕ → TrayLeft
+trayEnded d n ops choices tray t out =
     record {
       number = 0;
       place = cleanAmong d n ops choices t tray (shotsIn tray);
@@ -75,19 +75,19 @@ shotsTold d n ops choices tray t out =
     }
 
 -- 6 with the number of the first shot that has a bad entry
-abbrev pub at6 : Place → List ℕ → TrayLeft → TrayLeft
-at6 (At shot) out rest = turnedAway 6 shot out
-at6 Nowhere out rest = rest
+abbrev pub refuse6 : Place → List ℕ → TrayLeft → TrayLeft
+refuse6 (At shot) out rest = trayRefused 6 shot out
+refuse6 Nowhere out rest = rest
 
 -- 1 to 7 of the book, its own errors checked but not used; then 11, the tray's 6, 8 and 9
-unfoldable pub trayTold : List ℕ → List ℕ → List ℕ → List ℕ → Told → TrayLeft
-trayTold s tray t out (refused number place) = turnedAway number place out
-trayTold s tray t out (accepted d n operations errors choices) =
-    unless (tabled tray) (turnedAway 11 0 out)
-    (at6 (badShot d n operations tray) out
-    (unless (trayRoomy n (measurementsIn s d n) (shotsIn tray) t out) (turnedAway 8 0 out)
-    (unless (valid d n t) (turnedAway 9 0 out)
-    (shotsTold d n (operationsOf d n (bodyOf s 1)) (bodyOf s 3) tray t out))))
+unfoldable pub trayByAnswer : List ℕ → List ℕ → List ℕ → List ℕ → ReaderAnswer → TrayLeft
+trayByAnswer s tray t out (refused number place) = trayRefused number place out
+trayByAnswer s tray t out (accepted d n operations errors choices) =
+    unless (tableFits tray) (trayRefused 11 0 out)
+    (refuse6 (badShot d n operations tray) out
+    (unless (trayBuffersFit n (measurementsIn s d n) (shotsIn tray) t out) (trayRefused 8 0 out)
+    (unless (valid d n t) (trayRefused 9 0 out)
+    (trayEnded d n (operationsOf d n (bodyOf s 1)) (bodyOf s 3) tray t out))))
 
 unfoldable pub trayBook : List ℕ → List ℕ → List ℕ → List ℕ → TrayLeft
-trayBook s tray t out = trayTold s tray t out (readBook s)
+trayBook s tray t out = trayByAnswer s tray t out (readBook s)

@@ -9,27 +9,27 @@ use lib.Dec.{eqb}
 use lib.ListN.{length, getD, drop, length-drop}
 use lib.Seq.{ext-getD, getD-drop}
 use Rattle.modular.proofs.Listed.{dimension}
-use Rattle.tableau.specs.Tableau.{part}
 use Rattle.tableau.proofs.Parts.{each-rest, same}
 use Rattle.operation.specs.declared.Operation.{Operation}
 use Rattle.circuit.specs.Circuit.{measured}
 use Rattle.book.specs.Decoded.{operationsOf, errorsOf}
 use Rattle.tray.specs.Tray.{shotsIn, shotBody}
-use Rattle.run.specs.Direct.{State}
-use Rattle.run.specs.Frame.{noFrame}
-use Rattle.run.specs.Raised.{finalFrame}
-use Rattle.carrying.proofs.Told.{told-none, Equal}
-use Rattle.carrying.proofs.Buffers.{Twin, twin-run}
+use Rattle.runs.specs.Direct.{State}
+use Rattle.runs.specs.Frame.{noFrame}
+use Rattle.runs.specs.Raised.{finalFrame}
+use Rattle.run_laws.proofs.Results.{related-none, Equal}
+use Rattle.run_laws.proofs.Buffers.{Twin, twin-run}
 use Rattle.shots.specs.Shots.{shotBytes, runOf, shotRow, filledBy, shiftedAmong}
 use Rattle.shots.specs.Clean.{cleanPlus, cleanRun}
 use Rattle.shots.proofs.Clean.{clean-serves}
 use Rattle.shots.proofs.Same.{plus-same}
 use Rattle.shots.proofs.Rows.{keeps, shot-at}
-use Rattle.verdicts.proofs.Judged.{verdict-small}
-use Rattle.lane_shots.specs.LaneShots.{blank, verdictBy, bytesBy, shiftedBy}
+use Rattle.verdicts.proofs.Written.{verdict-small}
+use Rattle.lane_shots.specs.LaneShots.{blank, verdictBy, bytesBy, shiftedShots}
 use Rattle.lane_shots.proofs.Starting.{blank-length}
-use Rattle.blocks.specs.Blocks.{shotErrors, Filled}
+use Rattle.blocks.specs.Blocks.{shotErrors, ShotsFilled}
 use Rattle.shots_run.specs.Ready.{Ready}
+use Rattle.shots_run.specs.CopyRun.{copyRun, AllShotsFilled, allShotsShifted}
 use Rattle.shots_run.proofs.CleanRun.{window}
 
 module _ {d n : ℕ} {tray t ops choices : List ℕ} (h : Ready d n tray t ops choices) where
@@ -40,13 +40,13 @@ module _ {d n : ℕ} {tray t ops choices : List ℕ} (h : Ready d n tray t ops c
   total = measured list (length list)
 
   abbrev copied : State
-  copied = cleanRun d n list choices (part 0 (2 * n * (2 * n + 1)) t)
+  copied = copyRun d n ops choices t
 
   twins : Twin n total total (cleanRun d n list choices t) copied
   twins =
       let dim = dimension d (h .dimension) in
       let r : 2 * total ≤ length (blank (2 * total)) = omega (arith, blank-length (2 * total)) in
-      twin-run d n (omega (arith, dim .low)) list [] choices (record { rows = window n t (h .tableau .room); results = told-none Equal total r r })
+      twin-run d n (omega (arith, dim .low)) list [] choices (record { rows = window n t (h .tableau .room); results = related-none Equal total r r })
 
   -- a shot by the clean run on the copy is the separate frame run
   shot-is : (i : ℕ) → bytesBy d n list copied (shotErrors tray) i ≡ shotBytes (runOf d n list choices t tray i)
@@ -67,8 +67,8 @@ module _ {d n : ℕ} {tray t ops choices : List ℕ} (h : Ready d n tray t ops c
   small-one (suc zero) l = refl
   small-one (suc (suc v)) l = absurd (omega arith)
 
-  shifted-is : (k : ℕ) → shiftedBy d n list copied (shotErrors tray) k ≡ shiftedAmong d n list choices t tray k
-  unfolding shiftedBy shiftedAmong
+  shifted-is : (k : ℕ) → shiftedShots d n list copied (shotErrors tray) k ≡ shiftedAmong d n list choices t tray k
+  unfolding shiftedShots shiftedAmong
   shifted-is zero = refl
   shifted-is (suc k) =
       let low = verdict-small d n (finalFrame d n list (errorsOf (shotBody tray k)) (noFrame n)) (copied .rows) in
@@ -76,7 +76,7 @@ module _ {d n : ℕ} {tray t ops choices : List ℕ} (h : Ready d n tray t ops c
 
   -- the bytes
   filled-is : {out out' : List ℕ} → shotsIn tray * (1 + 2 * total) ≤ length out
-      → Filled d n list copied (shotErrors tray) (1 + 2 * total) 0 (shotsIn tray) out out'
+      → ShotsFilled d n list copied (shotErrors tray) (1 + 2 * total) 0 (shotsIn tray) out out'
       → out' ≡ filledBy d n list choices t tray out (shotsIn tray)
   filled-is {out} {out'} room f =
       same (1 + 2 * total) out' (filledBy d n list choices t tray out (shotsIn tray)) (shotsIn tray)
@@ -93,12 +93,12 @@ module _ {d n : ℕ} {tray t ops choices : List ℕ} (h : Ready d n tray t ops c
           ∙ sym (getD-drop (shotsIn tray * (1 + 2 * total)) out i 0))
 
   -- both, with the number of choices
-  pub told-by : {r : ℕ} {out out' : List ℕ} → shotsIn tray * (1 + 2 * length choices) ≤ length out
-      → Filled d n list copied (shotErrors tray) (1 + 2 * length choices) 0 (shotsIn tray) out out' × (r ≡ shiftedBy d n list copied (shotErrors tray) (shotsIn tray))
+  pub results-by : {r : ℕ} {out out' : List ℕ} → shotsIn tray * (1 + 2 * length choices) ≤ length out
+      → AllShotsFilled d n ops choices t tray out out' × (r ≡ allShotsShifted d n ops choices t tray)
       → (out' ≡ filledBy d n list choices t tray out (shotsIn tray)) × (r ≡ shiftedAmong d n list choices t tray (shotsIn tray))
-  told-by {r} {out} {out'} room f =
+  results-by {r} {out} {out'} room f =
       let one-each = h .circuit .one-each in (
         filled-is (subst (λ (x : ℕ). shotsIn tray * (1 + 2 * x) ≤ length out) one-each room)
-            (subst (λ (x : ℕ). Filled d n list copied (shotErrors tray) (1 + 2 * x) 0 (shotsIn tray) out out') one-each (f .0)),
+            (subst (λ (x : ℕ). ShotsFilled d n list copied (shotErrors tray) (1 + 2 * x) 0 (shotsIn tray) out out') one-each (f .0)),
         f .1 ∙ shifted-is (shotsIn tray),
       )

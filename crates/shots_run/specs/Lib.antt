@@ -1,1 +1,2 @@
 pub mod Ready
+pub mod CopyRun

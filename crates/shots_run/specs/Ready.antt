@@ -9,7 +9,7 @@ use Rattle.circuit.specs.Circuit.{Accepted}
 use Rattle.validity.specs.Validity.{Valid}
 use Rattle.book.specs.Decoded.{operationsOf, errorsOf}
 use Rattle.tray.specs.Tray.{shotsIn, shotBody}
-use Rattle.blocks.specs.Blocks.{Lies}
+use Rattle.blocks.specs.Blocks.{InTray}
 
 pub record Ready (d n : ℕ) (tray t ops choices : List ℕ) : Type 0 where
   pub dimension : listed d ≡ true
@@ -17,7 +17,6 @@ pub record Ready (d n : ℕ) (tray t ops choices : List ℕ) : Type 0 where
   pub circuit : Accepted d n (operationsOf d n ops) [] choices
   pub few : length ops < 65536
   pub short : length choices ≤ 4096
-  pub shots : shotsIn tray ≤ 4096
-  pub lies : Lies tray
+  pub lies : InTray tray
   pub errors : (i : ℕ) → i < shotsIn tray → Accepted d n (operationsOf d n ops) (errorsOf (shotBody tray i)) choices
   pub tableau : Valid d n t

@@ -2,14 +2,12 @@
 ghost use mathlib.Core.Path.{_≡_};
 ghost use Prim.Native.Nat.{_+_, _*_, _≤_};
 ghost use lib.ListN.{length};
-ghost use Rattle.tableau.specs.Tableau.{part};
 ghost use Rattle.book.specs.Decoded.{operationsOf};
 ghost use Rattle.tray.specs.Tray.{shotsIn};
 ghost use Rattle.shots.specs.Shots.{filledBy, shiftedAmong};
-ghost use Rattle.shots.specs.Clean.{cleanRun};
-ghost use Rattle.lane_shots.specs.LaneShots.{blank, shiftedBy};
-ghost use Rattle.blocks.specs.Blocks.{shotErrors, Filled};
+ghost use Rattle.lane_shots.specs.LaneShots.{blank};
 ghost use Rattle.shots_run.specs.Ready.{Ready};
+ghost use Rattle.shots_run.specs.CopyRun.{AllShotsFilled, allShotsShifted};
 
 // The clean run in lent buffers, which begin as a copy's room and as no results; then every shot. How many are shifted is returned.
 fn run_in(
@@ -27,12 +25,12 @@ fn run_in(
         × (length (now copy) ≡ 2 * n * (2 * n + 1))
         × (now results ≡ blank (2 * length (now choices)))
         × (shotsIn (now tray) * (1 + 2 * length (now choices)) ≤ length (now out)) ⌝ }
-    ensures { λ r. ⌜ Filled d n (operationsOf d n (now (ops .entry))) (cleanRun d n (operationsOf d n (now (ops .entry))) (now (choices .entry)) (part 0 (2 * n * (2 * n + 1)) (now (t .entry)))) (shotErrors (now (tray .entry))) (1 + 2 * length (now (choices .entry))) 0 (shotsIn (now (tray .entry))) (now (out .entry)) (now (out .exit))
-        × (r ≡ shiftedBy d n (operationsOf d n (now (ops .entry))) (cleanRun d n (operationsOf d n (now (ops .entry))) (now (choices .entry)) (part 0 (2 * n * (2 * n + 1)) (now (t .entry)))) (shotErrors (now (tray .entry))) (shotsIn (now (tray .entry)))) ⌝ }
+    ensures { λ r. ⌜ AllShotsFilled d n (now (ops .entry)) (now (choices .entry)) (now (t .entry)) (now (tray .entry)) (now (out .entry)) (now (out .exit))
+        × (r ≡ allShotsShifted d n (now (ops .entry)) (now (choices .entry)) (now (t .entry)) (now (tray .entry))) ⌝ }
 {
     let size = copy.len();
     tableau::copy(copy, &t[..size]);
-    clean::run(copy, results, ops, choices, d, n);
+    clean_run::run(copy, results, ops, choices, d, n);
     blocks::fill(out, tray, ops, results, copy, 1 + 2 * choices.len(), d, n)
 }
 
@@ -48,7 +46,8 @@ pub fn run(
 ) -> usize
     requires { ⌜ Ready d n (now tray) (now t) (now ops) (now choices)
         × (shotsIn (now tray) * (1 + 2 * length (now choices)) ≤ length (now out)) ⌝ }
-    ensures { λ r. ⌜ (now (out .exit) ≡ filledBy d n (operationsOf d n (now (ops .entry))) (now (choices .entry)) (now (t .entry)) (now (tray .entry)) (now (out .entry)) (shotsIn (now (tray .entry))))
+    ensures { λ r. ⌜ (now (out .exit)
+        ≡ filledBy d n (operationsOf d n (now (ops .entry))) (now (choices .entry)) (now (t .entry)) (now (tray .entry)) (now (out .entry)) (shotsIn (now (tray .entry))))
         × (r ≡ shiftedAmong d n (operationsOf d n (now (ops .entry))) (now (choices .entry)) (now (t .entry)) (now (tray .entry)) (shotsIn (now (tray .entry)))) ⌝ }
 {
     let mut copy = [0u8; 16512];

@@ -1,8 +1,8 @@
 // Reads one shot book from standard input and prints its frame run from the zero tableau.
 ghost use Prim.Native.Nat.{_+_, _*_, _<_, _≤_};
 ghost use lib.ListN.{length};
-use body::Numbers;
-use body::Reading;
+use book_body::Numbers;
+use book_body::Reading;
 
 fn write(words: &[u8], number: usize) {
     io::write_all(1, words);
@@ -21,7 +21,7 @@ fn measurement(j: usize, q: usize, results: &[u8])
 {
     write(b"m ", j);
     write(b" qudit ", q);
-    let outcome = entries::wide(results[2 * j]);
+    let outcome = casts::byte_as_usize(results[2 * j]);
     if results[2 * j + 1] == 0 {
         write(b" certain ", outcome);
     } else {
@@ -39,7 +39,7 @@ fn measurements(ops: &[u8], results: &[u8]) {
     while k < count {
         if ops[4 * k] == 6 {
             if j < room {
-                measurement(j, entries::wide(ops[4 * k + 1]), results);
+                measurement(j, casts::byte_as_usize(ops[4 * k + 1]), results);
                 j += 1;
             }
         }
@@ -53,7 +53,7 @@ fn shift_line(shifts: &[u8; 128], n: usize)
 {
     io::write_all(1, b"shift");
     for i in 0..2 * n {
-        write(b" ", entries::wide(shifts[i]));
+        write(b" ", casts::byte_as_usize(shifts[i]));
     }
     io::write_all(1, b"\n");
 }
@@ -73,13 +73,13 @@ fn list(book: &[u8], numbers: Numbers) {
     let mut shifts = [0u8; 128];
     let mut frame = [0u8; 128];
     let n = numbers.n;
-    layer::lay(&mut t, entries::wide(numbers.d), n);
-    let answer = framed::frame_run(book, &mut t, &mut results, &mut shifts, &mut frame);
+    layer::lay(&mut t, casts::byte_as_usize(numbers.d), n);
+    let answer = frame_run::frame_run(book, &mut t, &mut results, &mut shifts, &mut frame);
     if answer.number != 0 {
         refuse(answer.number, answer.place);
         return;
     }
-    write(b"d ", entries::wide(numbers.d));
+    write(b"d ", casts::byte_as_usize(numbers.d));
     write(b" n ", n);
     write(b" operations ", numbers.operations);
     write(b" errors ", numbers.errors);
@@ -98,6 +98,6 @@ fn main() {
     let reading = book::read(&book[..length]);
     match reading {
         Reading::Accepted(numbers) => list(&book[..length], numbers),
-        Reading::Refused { number, place } => refuse(entries::wide(number), place),
+        Reading::Refused { number, place } => refuse(casts::byte_as_usize(number), place),
     }
 }

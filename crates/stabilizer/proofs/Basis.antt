@@ -11,12 +11,12 @@ use Rattle.symplectic.proofs.Map.{Same}
 use Rattle.stabilizer.proofs.Span.{none-left, none-right, sum-none, Inverses, Ones, Zeros, expand}
 
 -- Stabilizer i paired with destabilizer i gives 1, and any two rows that are not such partners give 0.
-pub record Valid (e n : ℕ) (v : ℕ → ℕ → ℕ) : Type 0 where
+pub record SymplecticBasis (e n : ℕ) (v : ℕ → ℕ → ℕ) : Type 0 where
   pub partners : (i : ℕ) → i < n → Cong (suc e) (pair e n (v (n + i)) (v i)) 1
   pub others : (r s : ℕ) → r < n + n → s < n + n → ¬ (r ≡ n + s) → ¬ (s ≡ n + r) → Cong (suc e) (pair e n (v r) (v s)) 0
 
 -- It depends on the rows' rests alone.
-pub valid-same : (e n : ℕ) (v v' : ℕ → ℕ → ℕ) → ((i : ℕ) → i < n + n → Same (suc e) n (v' i) (v i)) → Valid e n v → Valid e n v'
+pub valid-same : (e n : ℕ) (v v' : ℕ → ℕ → ℕ) → ((i : ℕ) → i < n + n → Same (suc e) n (v' i) (v i)) → SymplecticBasis e n v → SymplecticBasis e n v'
 valid-same e n v v' h ok =
     record {
       partners = λ i l.
@@ -66,7 +66,7 @@ module _ (e n : ℕ) (v : ℕ → ℕ → ℕ) where
 e-squared : (e : ℕ) → Cong (suc e) (e * (e * 1)) 1
 e-squared e = record { p = 1; q = e; eq = omega arith }
 
-module _ (e n : ℕ) (le : 1 ≤ e) (inv : Inverses (suc e)) (v : ℕ → ℕ → ℕ) (ok : Valid e n v) where
+module _ (e n : ℕ) (le : 1 ≤ e) (inv : Inverses (suc e)) (v : ℕ → ℕ → ℕ) (ok : SymplecticBasis e n v) where
   abbrev d : ℕ
   d = suc e
 

@@ -9,7 +9,7 @@ use Rattle.congruence.proofs.Congruence.{Cong, cong-refl, cong-eq, cong-sym, co
 use Rattle.congruence.proofs.Sum.{sum-congr, sum-zero, unit, unit-same, unit-other}
 use Rattle.symplectic.proofs.Pairing.{half, pair, pair-zed}
 use Rattle.stabilizer.proofs.Span.{Inverses, none-right}
-use Rattle.stabilizer.proofs.Basis.{Valid}
+use Rattle.stabilizer.proofs.Basis.{SymplecticBasis}
 
 -- Inverses from their rule: u times f u leaves 1.
 pub inverses : (e : ℕ) (f : ℕ → ℕ) → ((u : ℕ) → 0 < u → u < suc e → u * f u % suc e ≡ 1) → Inverses (suc e)
@@ -25,14 +25,14 @@ inverses e f h u nz = (
 module _ (e n : ℕ) (v p : ℕ → ℕ → ℕ) (is : (r s : ℕ) → Cong (suc e) (p r s) (pair e n (v r) (v s))) where
   pub valid : ((i : ℕ) → i < n → p (n + i) i ≡ 1)
       → ((r s : ℕ) → r < n + n → s < n + n → ¬ (r ≡ n + s) → ¬ (s ≡ n + r) → p r s ≡ 0)
-      → Valid e n v
+      → SymplecticBasis e n v
   valid one none =
       record {
         partners = λ i l. cong-trans (cong-sym (is (n + i) i)) (cong-eq (suc e) (one i l));
         others = λ r s lr ls x y. cong-trans (cong-sym (is r s)) (cong-eq (suc e) (none r s lr ls x y));
       }
 
-  module _ (small : (r s : ℕ) → p r s < suc e) (ok : Valid e n v) where
+  module _ (small : (r s : ℕ) → p r s < suc e) (ok : SymplecticBasis e n v) where
     pub valid-partners : 1 ≤ e → (i : ℕ) → i < n → p (n + i) i ≡ 1
     valid-partners le i l = small-cong (cong-trans (is (n + i) i) (ok .partners i l)) (small (n + i) i) (omega arith)
 
@@ -40,7 +40,7 @@ module _ (e n : ℕ) (v p : ℕ → ℕ → ℕ) (is : (r s : ℕ) → Cong (suc
     valid-others r s lr ls x y = small-cong (cong-trans (is r s) (ok .others r s lr ls x y)) (small r s) (omega arith)
 
 -- The zero tableau is valid: row r has power 1 at r alone.
-pub zero-valid : (e n : ℕ) → Valid e n unit
+pub zero-valid : (e n : ℕ) → SymplecticBasis e n unit
 zero-valid e n =
     record {
       partners = λ i l. cong-eq (suc e) (pair-zed e n i l (unit i) ∙ unit-same i i refl);

@@ -10,9 +10,9 @@ use Rattle.symplectic.proofs.Triangle.{tri}
 use Rattle.symplectic.proofs.Pairing.{half, half-add-left, half-add-right, half-mul-left, half-mul-right, half-cong, pair, pair-left, pair-cong, zed, half-zed, half-to-zed, pair-zed}
 use Rattle.symplectic.proofs.Map.{Same}
 use Rattle.stabilizer.proofs.Span.{none-left, sum-none}
-use Rattle.stabilizer.proofs.Basis.{Valid}
+use Rattle.stabilizer.proofs.Basis.{SymplecticBasis}
 use Rattle.stabilizer.proofs.Kept.{Moved}
-use Rattle.stabilizer.proofs.Product.{vec, phs, Commute}
+use Rattle.stabilizer.proofs.Product.{vec, phs, RowsCommute}
 use Rattle.stabilizer.proofs.Member.{Closed, closed-pow, closed-prod, Member, member-row, members-closed, stabs-commute, member-pair, member-unique}
 
 -- The products of the members that commute with Z on q with powers of the row (Z on q, phase c).
@@ -83,7 +83,7 @@ module _ (d n : ℕ) (g : ℕ → ℕ → ℕ) (r : ℕ → ℕ) (q c : ℕ) whe
       (old (m .base) (m .ph) (m .member) (m .commutes))
       (closed-pow d n P cl (zed n q) c new (m .times)))
 
-  module _ (cmt : Commute d n n g) where
+  module _ (cmt : RowsCommute d n n g) where
     abbrev members : Closed d n (Member d n g r)
     members = members-closed d n g r cmt
 
@@ -167,14 +167,14 @@ measured d n v r q c k w t v' r' lk mv new row =
       row-phase = row;
     }
 
-module _ (f n : ℕ) (v : ℕ → ℕ → ℕ) (ok : Valid (f + f) n v) (r : ℕ → ℕ) (q c k w : ℕ) (t : ℕ → ℕ) (g' : ℕ → ℕ → ℕ) (r' : ℕ → ℕ) (lq : q < n) (lk : k < n) (hw : Cong (suc (f + f)) (v (n + k) q * w) 1) (made : Measured (suc (f + f)) n (λ i. v (n + i)) r q c k t g' r') where
+module _ (f n : ℕ) (v : ℕ → ℕ → ℕ) (ok : SymplecticBasis (f + f) n v) (r : ℕ → ℕ) (q c k w : ℕ) (t : ℕ → ℕ) (g' : ℕ → ℕ → ℕ) (r' : ℕ → ℕ) (lq : q < n) (lk : k < n) (hw : Cong (suc (f + f)) (v (n + k) q * w) 1) (made : Measured (suc (f + f)) n (λ i. v (n + i)) r q c k t g' r') where
   abbrev d : ℕ
   d = suc (f + f)
 
   abbrev g : ℕ → ℕ → ℕ
   g i = v (n + i)
 
-  cmt : Commute d n n g
+  cmt : RowsCommute d n n g
   cmt = stabs-commute (f + f) n v ok
 
   abbrev old : Closed d n (Member d n g r)

@@ -8,7 +8,7 @@ use Rattle.congruence.proofs.Congruence.{Cong, cong-refl, cong-eq, cong-trans, 
 use Rattle.symplectic.proofs.Pairing.{pair, pair-left, pair-right, pair-scale, pair-self, pair-flip, pair-cong, zed, pair-zed}
 use Rattle.symplectic.proofs.Map.{Same}
 use Rattle.stabilizer.proofs.Span.{none-left}
-use Rattle.stabilizer.proofs.Basis.{Valid}
+use Rattle.stabilizer.proofs.Basis.{SymplecticBasis}
 
 -- The powers v' of the 2n rows after a free measurement of q with pivot stabilizer k, w the inverse of its X power on q. Row j is
 -- multiplied by the pivot to the power t j.
@@ -33,7 +33,7 @@ kind n k j = go (ℕ-discrete j (n + k)) (ℕ-discrete j k)
     go (no x) (yes y) = destabK y
     go (no x) (no y) = rest x y
 
-module _ (e n : ℕ) (v : ℕ → ℕ → ℕ) (ok : Valid e n v) (q k w : ℕ) (t : ℕ → ℕ) (v' : ℕ → ℕ → ℕ) (lq : q < n) (lk : k < n) (mv : Moved (suc e) n v q k w t v') where
+module _ (e n : ℕ) (v : ℕ → ℕ → ℕ) (ok : SymplecticBasis e n v) (q k w : ℕ) (t : ℕ → ℕ) (v' : ℕ → ℕ → ℕ) (lq : q < n) (lk : k < n) (mv : Moved (suc e) n v q k w t v') where
   abbrev d : ℕ
   d = suc e
 
@@ -88,7 +88,7 @@ module _ (e n : ℕ) (v : ℕ → ℕ → ℕ) (ok : Valid e n v) (q k w : ℕ) 
   at i j a b p r h =
       cong-trans (cong-eq d (ap (λ (z : ℕ). pair e n (v' z) (v' j)) p ∙ ap (λ (z : ℕ). pair e n (v' a) (v' z)) r)) h
 
-  pub kept : Valid e n v'
+  pub kept : SymplecticBasis e n v'
   kept = record { partners = partners; others = λ r s lr ls x y. others r s lr ls x y (kind n k r) (kind n k s) }
     where
       partners : (i : ℕ) → i < n → Cong d (pair e n (v' (n + i)) (v' i)) 1

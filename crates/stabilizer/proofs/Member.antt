@@ -11,8 +11,8 @@ use Rattle.symplectic.proofs.Triangle.{tri}
 use Rattle.symplectic.proofs.Pairing.{half, half-mul-left, half-cong, pair, pair-cong, pair→half, zed, pair-zed}
 use Rattle.symplectic.proofs.Map.{Same}
 use Rattle.stabilizer.proofs.Span.{none-left, sum-none}
-use Rattle.stabilizer.proofs.Basis.{Valid}
-use Rattle.stabilizer.proofs.Product.{vec, phs, pair-vec, vec-cong, phs-cong, vec-none, phs-none, phs-unit, Commute, vec-add, phs-add}
+use Rattle.stabilizer.proofs.Basis.{SymplecticBasis}
+use Rattle.stabilizer.proofs.Product.{vec, phs, pair-vec, vec-cong, phs-cong, vec-none, phs-none, phs-unit, RowsCommute, vec-add, phs-add}
 
 -- A property of rows, given by powers and phase, that is closed under the product.
 pub record Closed (d n : ℕ) (P : (ℕ → ℕ) → ℕ → Type 0) : Type 0 where
@@ -72,7 +72,7 @@ member-row d n g r j l =
     }
 
 -- Where the rows commute, the members are closed.
-pub members-closed : (d n : ℕ) (g : ℕ → ℕ → ℕ) (r : ℕ → ℕ) → Commute d n n g → Closed d n (Member d n g r)
+pub members-closed : (d n : ℕ) (g : ℕ → ℕ → ℕ) (r : ℕ → ℕ) → RowsCommute d n n g → Closed d n (Member d n g r)
 members-closed d n g r cmt =
     record {
       none = record { by = λ i. 0; powers = λ s l. cong-eq d (sym (vec-none g n s)); phase = cong-eq d (sym (phs-none n g r n)) };
@@ -90,14 +90,14 @@ members-closed d n g r cmt =
     }
 
 -- The stabilizers of a valid tableau.
-module _ (e n : ℕ) (v : ℕ → ℕ → ℕ) (ok : Valid e n v) where
+module _ (e n : ℕ) (v : ℕ → ℕ → ℕ) (ok : SymplecticBasis e n v) where
   abbrev stab : ℕ → ℕ → ℕ
   stab i = v (n + i)
 
   stabs-pair : (i j : ℕ) → i < n → j < n → Cong (suc e) (pair e n (stab i) (stab j)) 0
   stabs-pair i j li lj = ok .others (n + i) (n + j) (omega arith) (omega arith) (omega arith) (omega arith)
 
-  pub stabs-commute : Commute (suc e) n n stab
+  pub stabs-commute : RowsCommute (suc e) n n stab
   stabs-commute i j li lj = pair→half e n (stab i) (stab j) (stabs-pair i j li lj)
 
   stab-destab : (i j : ℕ) → i < n → j < n → Cong (suc e) (pair e n (stab i) (v j)) (unit j i)
@@ -135,7 +135,7 @@ module _ (e n : ℕ) (v : ℕ → ℕ → ℕ) (ok : Valid e n v) where
         cong-trans (cong-eq (suc e) (sym (pair-zed e n q lq (v (n + i))))) (member-pair (zed n q) p m i l)
 
 -- There is one member with given powers: they settle the exponents.
-pub member-unique : (f n : ℕ) (v : ℕ → ℕ → ℕ) → Valid (f + f) n v → (r : ℕ → ℕ) (u : ℕ → ℕ) (p : ℕ) (u' : ℕ → ℕ) (p' : ℕ)
+pub member-unique : (f n : ℕ) (v : ℕ → ℕ → ℕ) → SymplecticBasis (f + f) n v → (r : ℕ → ℕ) (u : ℕ → ℕ) (p : ℕ) (u' : ℕ → ℕ) (p' : ℕ)
     → Member (suc (f + f)) n (λ i. v (n + i)) r u p
     → Member (suc (f + f)) n (λ i. v (n + i)) r u' p'
     → Same (suc (f + f)) n u u'

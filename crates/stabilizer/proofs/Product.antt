@@ -113,8 +113,8 @@ module _ (n : ℕ) (g : ℕ → ℕ → ℕ) (r : ℕ → ℕ) (j : ℕ) where
       go (no q) ih = ap (next k) (unit-other j k q) ∙ next-none k ∙ ih (omega arith)
 
 -- The product of two products of rows that commute.
-abbrev pub Commute : (d n N : ℕ) → (ℕ → ℕ → ℕ) → Type 0
-Commute d n N g = (i j : ℕ) → i < N → j < N → Cong d (half n (g i) (g j)) (half n (g j) (g i))
+abbrev pub RowsCommute : (d n N : ℕ) → (ℕ → ℕ → ℕ) → Type 0
+RowsCommute d n N g = (i j : ℕ) → i < N → j < N → Cong d (half n (g i) (g j)) (half n (g j) (g i))
 
 pub vec-add : (g : ℕ → ℕ → ℕ) (h h' : ℕ → ℕ) (k s : ℕ) → vec g (λ i. h i + h' i) k s ≡ vec g h k s + vec g h' k s
 vec-add g h h' k s =
@@ -129,7 +129,7 @@ factor : (d x y ρ σ P P' Q' H T T' B A A' : ℕ)
 factor d x y ρ σ P P' Q' H T T' B A A' ih cm =
     record { p = ih .p + x * cm .p; q = ih .q + x * cm .q; eq = omega (arith, ap (λ (z : ℕ). x * z) (cm .eq)) }
 
-module _ (d n N : ℕ) (g : ℕ → ℕ → ℕ) (r : ℕ → ℕ) (cmt : Commute d n N g) where
+module _ (d n N : ℕ) (g : ℕ → ℕ → ℕ) (r : ℕ → ℕ) (cmt : RowsCommute d n N g) where
   pub vec-commute : (h : ℕ → ℕ) (k j : ℕ) → k ≤ N → j < N → Cong d (half n (vec g h k) (g j)) (half n (g j) (vec g h k))
   vec-commute h k j lk lj =
       cong-trans (cong-eq d (half-vec-left n g h k (g j)))

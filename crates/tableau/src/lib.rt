@@ -6,17 +6,13 @@ ghost use Rattle.modular.specs.Modular.{WideReciprocal};
 ghost use Rattle.row.specs.Row.{pairing};
 ghost use Rattle.tableau.specs.Tableau.{sized, Tableau, row};
 
-// What an entry point returns: 0 and a count (a run's measurements, the bytes that the writer wrote, else 0), or a refusal's number
-// and its place.
-#[repr(C)]
-pub struct Answer {
-    pub number: usize,
-    pub place: usize,
-}
-
 // The pairing of row i with row j.
 pub fn pairing_at(t: &[u8], i: usize, j: usize, d: u8, m: u64, n: usize) -> u8
-    requires { ⌜ (n ≤ 64) × (i < 2 * n) × (j < 2 * n) × Tableau d n (now t) × WideReciprocal d m ⌝ }
+    requires { ⌜ (n ≤ 64)
+        × (i < 2 * n)
+        × (j < 2 * n)
+        × Tableau d n (now t)
+        × WideReciprocal d m ⌝ }
     ensures { λ r. ⌜ r ≡ pairing d n (row n (now (t .entry)) i) (row n (now (t .entry)) j) ⌝ }
 {
     let w = 2 * n + 1;

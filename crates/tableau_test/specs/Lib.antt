@@ -1,1 +1,2 @@
+pub mod Pairable
 pub mod Sums

@@ -9,8 +9,9 @@ ghost use Rattle.modular.specs.Modular.{WideReciprocal};
 ghost use Rattle.tableau.specs.Tableau.{Tableau};
 ghost use Rattle.columns.specs.Columns.{Laid};
 ghost use Rattle.validity.specs.Validity.{byteBelow, pairsWell, rowValid, valid, testNumber};
+ghost use Rattle.tableau_test.specs.Pairable.{Pairable, PairableByColumns};
 ghost use Rattle.tableau_test.specs.Sums.{sumsPairWell};
-use tableau::Answer;
+use answer::Answer;
 
 fn larger(x: u8, y: u8) -> u8
     ensures { λ r. ⌜ r ≡ cond (ltb x y) y x ⌝ }
@@ -41,21 +42,17 @@ fn wanted(i: usize, j: usize, n: usize) -> u8
 }
 
 fn pairs_well(t: &[u8], i: usize, j: usize, d: u8, m: u64, n: usize) -> bool
-    requires { ⌜ (n ≤ 64)
-        × (i < 2 * n)
+    requires { ⌜ (i < 2 * n)
         × (j < 2 * n)
-        × Tableau d n (now t)
-        × WideReciprocal d m ⌝ }
+        × Pairable d n m (now t) ⌝ }
     ensures { λ r. ⌜ r ≡ pairsWell d n (now (t .entry)) i j ⌝ }
 {
     tableau::pairing_at(t, i, j, d, m, n) == wanted(i, j, n)
 }
 
 fn row_valid(t: &[u8], i: usize, d: u8, m: u64, n: usize) -> bool
-    requires { ⌜ (n ≤ 64)
-        × (i < 2 * n)
-        × Tableau d n (now t)
-        × WideReciprocal d m ⌝ }
+    requires { ⌜ (i < 2 * n)
+        × Pairable d n m (now t) ⌝ }
     ensures { λ r. ⌜ r ≡ rowValid d n (now (t .entry)) i ⌝ }
 {
     let mut j = 0;
@@ -99,17 +96,14 @@ fn sums_valid(plus: &[u16], minus: &[u16], i: usize, d: u8, m: u64, n: usize) ->
 {
     let mut good = true;
     for k in 0..i {
-        good = good & (row::difference(plus[k], minus[k], d, m) == wanted(i, k, n));
+        good = good & (modular::reduce_difference(plus[k], minus[k], d, m) == wanted(i, k, n));
     }
     good
 }
 
 fn row_valid_by(columns: &[u16], t: &[u8], i: usize, d: u8, m: u64, n: usize) -> bool
-    requires { ⌜ (n ≤ 64)
-        × (i < 2 * n)
-        × Tableau 31 n (now t)
-        × Laid n (now t) (256 * n) (now columns)
-        × WideReciprocal d m ⌝ }
+    requires { ⌜ (i < 2 * n)
+        × PairableByColumns d n m (now t) (now columns) ⌝ }
     ensures { λ r. ⌜ r ≡ rowValid d n (now (t .entry)) i ⌝ }
 {
     let mut plus = [0u16; 128];
@@ -154,7 +148,10 @@ fn rows_by_columns(t: &[u8], d: u8, n: usize) -> bool
 
 // Whether the rows of t are a valid tableau.
 pub fn is_valid(t: &[u8], d: u8, n: usize) -> bool
-    requires { ⌜ (3 ≤ d) × (d ≤ 31) × (n ≤ 64) × (2 * n * (2 * n + 1) ≤ length (now t)) ⌝ }
+    requires { ⌜ (3 ≤ d)
+        × (d ≤ 31)
+        × (n ≤ 64)
+        × (2 * n * (2 * n + 1) ≤ length (now t)) ⌝ }
     ensures { λ r. ⌜ r ≡ valid d n (now (t .entry)) ⌝ }
 {
     let bytes = 2 * n * (2 * n + 1);
@@ -173,32 +170,12 @@ pub fn is_valid(t: &[u8], d: u8, n: usize) -> bool
 pub fn test(t: &[u8], d: usize, n: usize) -> Answer
     ensures { λ r. ⌜ r ≡ record { number = testNumber d n (now (t .entry)); place = 0 } ⌝ }
 {
-    if !modular::is_listed(d) {
-        return Answer {
-            number: 2,
-            place: 0,
-        };
-    }
-    if !tableau::is_sized(n) {
-        return Answer {
-            number: 3,
-            place: 0,
-        };
-    }
-    if t.len() < 2 * n * (2 * n + 1) {
-        return Answer {
-            number: 8,
-            place: 0,
-        };
+    let number = answer::shape_number(t, d, n);
+    if number != 0 {
+        return Answer { number, place: 0 };
     }
     if !is_valid(t, d as u8, n) {
-        return Answer {
-            number: 9,
-            place: 0,
-        };
+        return answer::refused(9, 0);
     }
-    Answer {
-        number: 0,
-        place: 0,
-    }
+    Answer { number, place: 0 }
 }

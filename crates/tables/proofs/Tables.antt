@@ -3,16 +3,15 @@
 use mathlib.Core.Path.{_≡_, sym, ap, ap₂, _∙_}
 use mathlib.Core.List.{List}
 use Prim.Native.Nat.{ℕ, zero, suc, _+_, _-_, _*_, _/_, _%_, _<_, _≤_}
-use native.Mathlib.Nat.{mul-sub, mul-one, mul-le-mul, one-mul, zero-add}
+use native.Mathlib.Nat.{mul-sub, mul-one, mul-le-mul, zero-add}
 use native.Mathlib.Omega.{arith}
 use lib.ListN.{length, getD}
 use Rattle.modular.specs.Modular.{tri}
 use Rattle.row.specs.Row.{tab}
-use Rattle.row.specs.Fill.{multipleAt}
 use Rattle.row.proofs.Fill.{tab-length, tab-get}
 use Rattle.tableau.specs.Tableau.{put}
 use Rattle.tableau.proofs.Parts.{put-length, put-left, put-in}
-use Rattle.tables.specs.Tables.{Tables, productAt, triangleAt}
+use Rattle.tables.specs.Tables.{Tables, restAt, productAt, triangleAt}
 
 -- x(x − 1)/2 as the code makes it: x·x − x does not pass below 0
 pub triangle-made : (x : ℕ) → (x * x - x) / 2 ≡ tri x
@@ -30,7 +29,7 @@ product-most x y l m =
 
 module _ (d : ℕ) (low : 3 ≤ d) (high : d ≤ 31) (t : List ℕ) (size : length t ≡ 1152) where
   abbrev first : List ℕ
-  first = put 0 96 (tab (multipleAt d 1) 96) t
+  first = put 0 96 (tab (restAt d) 96) t
 
   abbrev second : List ℕ
   second = put 96 1024 (tab (productAt d) 1024) first
@@ -39,7 +38,7 @@ module _ (d : ℕ) (low : 3 ≤ d) (high : d ≤ 31) (t : List ℕ) (size : leng
   third = put 1120 32 (tab (triangleAt d) 32) second
 
   first-length : length first ≡ 1152
-  first-length = put-length 0 96 _ t (omega arith) (tab-length (multipleAt d 1) 96) ∙ size
+  first-length = put-length 0 96 _ t (omega arith) (tab-length (restAt d) 96) ∙ size
 
   second-length : length second ≡ 1152
   second-length = put-length 96 1024 _ first (omega (arith, first-length)) (tab-length (productAt d) 1024) ∙ first-length
@@ -64,9 +63,8 @@ module _ (d : ℕ) (low : 3 ≤ d) (high : d ≤ 31) (t : List ℕ) (size : leng
             third-left k (omega arith)
             ∙ put-left 96 1024 _ first (omega (arith, first-length)) (tab-length (productAt d) 1024) k l
             ∙ ap (λ (z : ℕ). getD first z 0) (sym (zero-add k))
-            ∙ put-in 0 96 _ t (omega arith) (tab-length (multipleAt d 1) 96) k l
-            ∙ tab-get (multipleAt d 1) 96 k 0 l
-            ∙ ap (λ (z : ℕ). z % d) (one-mul k);
+            ∙ put-in 0 96 _ t (omega arith) (tab-length (restAt d) 96) k l
+            ∙ tab-get (restAt d) 96 k 0 l;
         products =
             λ x y l m.
             third-left (96 + (x * 32 + y)) (omega arith)

@@ -15,7 +15,10 @@ pub record Tables (d : ℕ) (tables : List ℕ) : Type 0 where
   pub products : (x y : ℕ) → x < 32 → y < 32 → getD tables (96 + (x * 32 + y)) 0 ≡ x * y % d
   pub triangles : (x : ℕ) → x < 32 → getD tables (1120 + x) 0 ≡ tri x % d
 
--- entry k of the products, and entry x of the triangles
+-- entry k of the rests, entry k of the products, and entry x of the triangles
+abbrev pub restAt : ℕ → ℕ → ℕ
+restAt d k = k % d
+
 abbrev pub productAt : ℕ → ℕ → ℕ
 productAt d k = k / 32 * (k % 32) % d
 

@@ -4,7 +4,7 @@ ghost use Prim.Native.Nat.{_+_, _*_, _%_, _<_, _≤_};
 ghost use lib.ListN.{length};
 ghost use Rattle.modular.specs.Modular.{neg, tri, Reciprocal};
 ghost use Rattle.row.specs.Row.{tab};
-ghost use Rattle.tables.specs.Tables.{Tables, productAt, triangleAt};
+ghost use Rattle.tables.specs.Tables.{Tables, restAt, productAt, triangleAt};
 
 // The rest of k. Here, in sums and in products d only says which tables they are.
 fn rest(tables: &[u8], d: u8, k: usize) -> u8
@@ -75,6 +75,16 @@ pub fn triangle(tables: &[u8], d: u8, x: u8) -> u8
     tables[1120 + x as usize]
 }
 
+fn make_rests(rests: &mut [u8], d: u8, m: u16)
+    requires { ⌜ (length (now rests) ≡ 96)
+        × Reciprocal d m ⌝ }
+    ensures { λ _. ⌜ now (rests .exit) ≡ tab (restAt d) 96 ⌝ }
+{
+    for k in 0..96 {
+        rests[k] = modular::reduce(k as u16, d, m);
+    }
+}
+
 fn make_products(products: &mut [u8], d: u8, m: u16)
     requires { ⌜ (length (now products) ≡ 1024)
         × Reciprocal d m ⌝ }
@@ -104,7 +114,7 @@ pub fn make(tables: &mut [u8], d: u8)
     ensures { λ _. ⌜ Tables d (now (tables .exit)) ⌝ }
 {
     let m = modular::reciprocal(d);
-    row::multiples(&mut tables[0..96], 1, d, m);
+    make_rests(&mut tables[0..96], d, m);
     make_products(&mut tables[96..1120], d, m);
     make_triangles(&mut tables[1120..1152], d, m);
 }

@@ -7,10 +7,10 @@ use Prim.Native.Nat.{ℕ, _<_}
 use Rattle.search.specs.declared.Place.{Place}
 use Rattle.search.specs.declared.Place.the-variants.{At, Nowhere}
 use Rattle.search.proofs.Search.{all-good}
-use Rattle.body.specs.Body.{badError}
-use Rattle.tray.specs.Tray.{shotsIn, shotBody, none, goodShot, badShot}
+use Rattle.book_body.specs.Body.{badError}
+use Rattle.tray.specs.Tray.{shotsIn, shotBody, isNowhere, goodShot, badShot}
 
-nowhere : (p : Place) → none p ≡ true → p ≡ Nowhere
+nowhere : (p : Place) → isNowhere p ≡ true → p ≡ Nowhere
 nowhere (At k) e = cc
 nowhere Nowhere e = refl
 

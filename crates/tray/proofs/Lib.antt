@@ -1,4 +1,4 @@
 -- What is proved of the table and of the shots.
-pub mod Tabled
+pub mod Table
 pub mod GoodShots
 pub mod Only

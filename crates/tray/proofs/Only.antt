@@ -9,12 +9,12 @@ use native.Mathlib.Omega.{arith}
 use lib.ListN.{length, getD}
 use lib.Seq.{ext-getD}
 use Rattle.tableau.proofs.Parts.{part-length, part-at}
-use Rattle.entries.specs.Entry.{word}
-use Rattle.written.specs.Written.{Bytes}
+use Rattle.book_entries.specs.Entry.{word}
+use Rattle.written_book.specs.Written.{Bytes}
 use Rattle.tray.specs.Tray.{shotsIn, lengthAt, startOf, shotBody, OnlyTray}
-use Rattle.tray.proofs.Tabled.{Tabled, tabled-says, body-inside, table-inside}
+use Rattle.tray.proofs.Table.{TableFits, table-says, body-inside, table-inside}
 
-body-length : (s : List ℕ) → Tabled s → (i : ℕ) → i < shotsIn s → length (shotBody s i) ≡ lengthAt s i
+body-length : (s : List ℕ) → TableFits s → (i : ℕ) → i < shotsIn s → length (shotBody s i) ≡ lengthAt s i
 body-length s h i l = part-length (startOf s i) (lengthAt s i) s (body-inside s h i l)
 
 -- the two bytes of a word
@@ -24,7 +24,7 @@ low-byte a b x y l k e = omega arith
 high-byte : (a b x y : ℕ) → a < 256 → x < 256 → a + 256 * b ≡ x + 256 * y → b ≡ y
 high-byte a b x y l k e = omega arith
 
-module _ (s u : List ℕ) (bytes : Bytes s) (bytes' : Bytes u) (h : Tabled s) (h' : Tabled u) (count : shotsIn s ≡ shotsIn u)
+module _ (s u : List ℕ) (bytes : Bytes s) (bytes' : Bytes u) (h : TableFits s) (h' : TableFits u) (count : shotsIn s ≡ shotsIn u)
     (bodies : (i : ℕ) → i < shotsIn s → shotBody s i ≡ shotBody u i) where
   same-length : (i : ℕ) → i < shotsIn s → lengthAt s i ≡ lengthAt u i
   same-length i l = sym (body-length s h i l) ∙ ap length (bodies i l) ∙ body-length u h' i (omega arith)
@@ -75,4 +75,4 @@ module _ (s u : List ℕ) (bytes : Bytes s) (bytes' : Bytes u) (h : Tabled s) (h
       (λ j l. before (shotsIn s) (le-refl (shotsIn s)) j (omega (arith, h .ends)))
 
 pub only-tray : OnlyTray
-only-tray s u bytes bytes' e e' count bodies = only s u bytes bytes' (tabled-says s e) (tabled-says u e') count bodies
+only-tray s u bytes bytes' e e' count bodies = only s u bytes bytes' (table-says s e) (table-says u e') count bodies

@@ -10,9 +10,9 @@ use Rattle.search.specs.declared.Place.{Place}
 use Rattle.search.specs.declared.Place.the-variants.{At, Nowhere}
 use Rattle.search.specs.Search.{all, firstNot}
 use Rattle.tableau.specs.Tableau.{part}
-use Rattle.entries.specs.Entry.{word}
-use Rattle.body.specs.Body.{lengthFits, badError}
-use Rattle.written.specs.Written.{Bytes}
+use Rattle.book_entries.specs.Entry.{word}
+use Rattle.book_body.specs.Body.{lengthFits, badError}
+use Rattle.written_book.specs.Written.{Bytes}
 
 abbrev pub shotsIn : List ℕ → ℕ
 shotsIn s = word s 0
@@ -33,23 +33,23 @@ shotBody s i = part (startOf s i) (lengthAt s i) s
 abbrev pub goodLength : List ℕ → ℕ → Bool
 goodLength s i = lengthFits (lengthAt s i) 5 2048
 
-unfoldable pub tabled : List ℕ → Bool
-tabled s = leb (shotsIn s) 4096 && (all (goodLength s) (shotsIn s) && eqb (startOf s (shotsIn s)) (length s))
+unfoldable pub tableFits : List ℕ → Bool
+tableFits s = leb (shotsIn s) 4096 && (all (goodLength s) (shotsIn s) && eqb (startOf s (shotsIn s)) (length s))
 
 -- No tray has two readings, since `shotsIn` and `shotBody` are functions of its bytes; and no two trays have the same one: of the
 -- trays of bytes whose tables are right, one alone has this number of shots and these bodies.
 abbrev pub OnlyTray : Type 0
-OnlyTray = (s u : List ℕ) → Bytes s → Bytes u → tabled s ≡ true → tabled u ≡ true → shotsIn s ≡ shotsIn u
+OnlyTray = (s u : List ℕ) → Bytes s → Bytes u → tableFits s ≡ true → tableFits u ≡ true → shotsIn s ≡ shotsIn u
     → ((i : ℕ) → i < shotsIn s → shotBody s i ≡ shotBody u i)
     → s ≡ u
 
 -- 6: the first shot that has a bad error entry; places as in a book of `count` operations
-abbrev pub none : Place → Bool
-none (At place) = false
-none Nowhere = true
+abbrev pub isNowhere : Place → Bool
+isNowhere (At place) = false
+isNowhere Nowhere = true
 
 abbrev pub goodShot : ℕ → ℕ → ℕ → List ℕ → ℕ → Bool
-goodShot d n count s i = none (badError d n count (shotBody s i))
+goodShot d n count s i = isNowhere (badError d n count (shotBody s i))
 
 unfoldable pub badShot : ℕ → ℕ → ℕ → List ℕ → Place
 badShot d n count s = firstNot (goodShot d n count s) (shotsIn s)

@@ -1,15 +1,15 @@
 // The reader of trays: refusal 11, and the tray's 6.
 ghost use mathlib.Core.Path.{_≡_};
 ghost use mathlib.Core.Bool.{true};
-ghost use Rattle.tray.specs.Tray.{tabled, badShot};
-use body::bad_error;
-use body::length_fits;
-use entries::word;
+ghost use Rattle.tray.specs.Tray.{tableFits, badShot};
+use book_body::bad_error;
+use book_body::length_fits;
+use book_entries::word;
 use search::Place;
 
 // Whether the table of contents is right, and the tray exactly as long as it says.
-pub fn is_tabled(tray: &[u8]) -> bool
-    ensures { λ r. ⌜ r ≡ tabled (now (tray .entry)) ⌝ }
+pub fn table_fits(tray: &[u8]) -> bool
+    ensures { λ r. ⌜ r ≡ tableFits (now (tray .entry)) ⌝ }
 {
     if tray.len() < 2 {
         return false;
@@ -37,7 +37,7 @@ pub fn is_tabled(tray: &[u8]) -> bool
 
 // 6: the first shot that has a bad error entry, for a book with `count` operations.
 pub fn bad_shot(tray: &[u8], count: usize, d: u8, n: usize) -> Place
-    requires { ⌜ tabled (now tray) ≡ true ⌝ }
+    requires { ⌜ tableFits (now tray) ≡ true ⌝ }
     ensures { λ r. ⌜ r ≡ badShot d n count (now (tray .entry)) ⌝ }
 {
     let shots = word(tray, 0);

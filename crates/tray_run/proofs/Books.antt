@@ -13,16 +13,16 @@ use Rattle.search.specs.declared.Place.the-variants.{At, Nowhere}
 use Rattle.search.proofs.Search.{both}
 use Rattle.validity.specs.Validity.{valid}
 use Rattle.validity.proofs.Exactly.{valid-exactly}
-use Rattle.body.specs.declared.Numbers.{Numbers}
-use Rattle.body.specs.declared.Reading.{Reading}
-use Rattle.body.specs.declared.Reading.the-variants.{Accepted as Taken}
-use Rattle.body.specs.Body.{accepted, told}
+use Rattle.book_body.specs.declared.Numbers.{Numbers}
+use Rattle.book_body.specs.declared.Reading.{Reading}
+use Rattle.book_body.specs.declared.Reading.the-variants.{Accepted as Taken}
+use Rattle.book_body.specs.Body.{accepted, answerOf}
 use Rattle.book.specs.Book.{partOf, readBook}
 use Rattle.book.specs.Decoded.{operationsOf}
 use Rattle.book.proofs.Handed.{Handed, handed}
-use Rattle.tray.specs.Tray.{shotsIn, tabled, badShot}
-use Rattle.tray.proofs.Tabled.{tabled-says}
-use Rattle.shots.specs.Shots.{cleanAmong, shiftedAmong, filledBy, TrayLeft, turnedAway, trayRoomy, trayTold, trayBook}
+use Rattle.tray.specs.Tray.{shotsIn, tableFits, badShot}
+use Rattle.tray.proofs.Table.{table-says}
+use Rattle.shots.specs.Shots.{cleanAmong, shiftedAmong, filledBy, TrayLeft, trayRefused, trayBuffersFit, trayByAnswer, trayBook}
 use Rattle.shots.proofs.Rows.{counts-are}
 use Rattle.shots_run.specs.Ready.{Ready}
 use Rattle.tray_run.proofs.Ready.{few-choices, ready}
@@ -40,8 +40,8 @@ pub record Opened (s : List ℕ) (b : Numbers) : Type 0 where
   pub reads : readBook s ≡ accepted (b .d) (b .n) (b .operations) (b .errors) (b .choices)
   pub hands : Handed s (b .d) (b .n) (b .choices)
 
-pub opened : (s : List ℕ) {reading : Reading} {b : Numbers} → told reading ≡ readBook s → reading ≡ Taken b → Opened s b
-opened s e f = record { reads = sym e ∙ ap told f; hands = handed s e f }
+pub opened : (s : List ℕ) {reading : Reading} {b : Numbers} → answerOf reading ≡ readBook s → reading ≡ Taken b → Opened s b
+opened s e f = record { reads = sym e ∙ ap answerOf f; hands = handed s e f }
 
 module _ {s : List ℕ} {b : Numbers} (book : Opened s b) (tray t out : List ℕ) where
   abbrev d : ℕ
@@ -54,36 +54,36 @@ module _ {s : List ℕ} {b : Numbers} (book : Opened s b) (tray t out : List ℕ
   g = book .hands
 
   -- 11
-  pub bad-table : tabled tray ≡ false → turnedAway 11 0 out ≡ trayBook s tray t out
-  unfolding trayBook trayTold
+  pub bad-table : tableFits tray ≡ false → trayRefused 11 0 out ≡ trayBook s tray t out
+  unfolding trayBook trayByAnswer
   bad-table e = rw (book .reads, e)
 
-  module _ (table : tabled tray ≡ true) where
+  module _ (table : tableFits tray ≡ true) where
     -- 6
-    pub bad-tray : {i : ℕ} → badShot d n (b .operations) tray ≡ At i → turnedAway 6 i out ≡ trayBook s tray t out
-    unfolding trayBook trayTold
+    pub bad-tray : {i : ℕ} → badShot d n (b .operations) tray ≡ At i → trayRefused 6 i out ≡ trayBook s tray t out
+    unfolding trayBook trayByAnswer
     bad-tray e = rw (book .reads, table, e)
 
     pub sizes : (n ≤ 64) × (b .choices ≤ 4096) × (shotsIn tray ≤ 4096)
-    sizes = (g .qudits, omega (arith, few-choices s g, g .room), tabled-says tray table .few)
+    sizes = (g .qudits, omega (arith, few-choices s g, g .room), table-says tray table .few)
 
     module _ (good : badShot d n (b .operations) tray ≡ Nowhere) where
       -- 8
-      pub short-book : trayRoomy n (b .choices) (shotsIn tray) t out ≡ false → turnedAway 8 0 out ≡ trayBook s tray t out
-      unfolding trayBook trayTold
+      pub short-book : trayBuffersFit n (b .choices) (shotsIn tray) t out ≡ false → trayRefused 8 0 out ≡ trayBook s tray t out
+      unfolding trayBook trayByAnswer
       short-book e = rw (book .reads, table, good, g .measurements, e)
 
-      module _ (roomy : trayRoomy n (b .choices) (shotsIn tray) t out ≡ true) where
+      module _ (fitting : trayBuffersFit n (b .choices) (shotsIn tray) t out ≡ true) where
         pub rooms : (2 * n * (2 * n + 1) ≤ length t) × (shotsIn tray * (1 + 2 * length (partOf s 16)) ≤ length out)
-        unfolding trayRoomy
+        unfolding trayBuffersFit
         rooms =
-            let c = both (leb (2 * n * (2 * n + 1)) (length t)) (leb (shotsIn tray * (1 + 2 * b .choices)) (length out)) roomy in
+            let c = both (leb (2 * n * (2 * n + 1)) (length t)) (leb (shotsIn tray * (1 + 2 * b .choices)) (length out)) fitting in
             (leb-true _ _ (c .0), rw (g .room) (leb-true _ _ (c .1)))
 
         -- 9
-        pub invalid-book : valid d n t ≡ false → turnedAway 9 0 out ≡ trayBook s tray t out
-        unfolding trayBook trayTold
-        invalid-book e = rw (book .reads, table, good, g .measurements, roomy, e)
+        pub invalid-book : valid d n t ≡ false → trayRefused 9 0 out ≡ trayBook s tray t out
+        unfolding trayBook trayByAnswer
+        invalid-book e = rw (book .reads, table, good, g .measurements, fitting, e)
 
         module _ (tested : valid d n t ≡ true) where
           pub given : Ready d n tray t (partOf s 4) (partOf s 16)
@@ -100,7 +100,7 @@ module _ {s : List ℕ} {b : Numbers} (book : Opened s b) (tray t out : List ℕ
             pub run-book : {filled : List ℕ}
                 → filled ≡ filledBy d n (operationsOf d n (partOf s 4)) (partOf s 16) t tray out (shotsIn tray)
                 → _≡_ {A = TrayLeft} (record { number = 0; place = shotsIn tray - shifted; shifted = shifted; out = filled }) (trayBook s tray t out)
-            unfolding trayBook trayTold
+            unfolding trayBook trayByAnswer
             run-book o =
                 let clean : shotsIn tray - shifted ≡ cleanAmong d n (operationsOf d n (partOf s 4)) (partOf s 16) t tray (shotsIn tray) = omega (arith, counts) in
-                rw (book .reads, table, good, g .measurements, roomy, tested, g .third, ← g .measurements, g .first, clean, c, o)
+                rw (book .reads, table, good, g .measurements, fitting, tested, g .third, ← g .measurements, g .first, clean, c, o)

@@ -12,17 +12,17 @@ use Rattle.search.specs.declared.Place.the-variants.{Nowhere}
 use Rattle.search.proofs.Search.{both}
 use Rattle.circuit.specs.Circuit.{Accepted}
 use Rattle.validity.specs.Validity.{Valid}
-use Rattle.body.specs.Body.{lengthFits, accepted}
-use Rattle.body.proofs.Sound.{no-refusal}
+use Rattle.book_body.specs.Body.{lengthFits, accepted}
+use Rattle.book_body.proofs.Sound.{no-refusal}
 use Rattle.book.specs.Book.{lengthOf, partOf, readBook}
 use Rattle.book.specs.Decoded.{operationsOf, errorsOf}
-use Rattle.book.proofs.Contents.{all-passed, Laid, laid, part-length}
-use Rattle.book.proofs.Errors.{strikes, places}
+use Rattle.book.proofs.Contents.{all-passed, ContentsLaid, laid, part-length}
+use Rattle.book.proofs.GoodErrors.{errors-in-order, places}
 use Rattle.book.proofs.Meaning.{accepted-means}
 use Rattle.book.proofs.Handed.{Handed}
-use Rattle.carrying.proofs.Books.{without-errors}
-use Rattle.tray.specs.Tray.{shotsIn, shotBody, badShot, tabled}
-use Rattle.tray.proofs.Tabled.{tabled-says, table-inside, body-inside}
+use Rattle.run_laws.proofs.Books.{without-errors}
+use Rattle.tray.specs.Tray.{shotsIn, shotBody, badShot, tableFits}
+use Rattle.tray.proofs.Table.{table-says, table-inside, body-inside}
 use Rattle.tray.proofs.GoodShots.{shot-good}
 use Rattle.shots_run.specs.Ready.{Ready}
 
@@ -30,13 +30,13 @@ short : (length size most : ℕ) → lengthFits length size most ≡ true → le
 short length size most e = leb-true _ _ (both (eqb (length % size) 0) _ e .1)
 
 module _ (s : List ℕ) {d n choices : ℕ} (g : Handed s d n choices) where
-  lies : Laid s
+  lies : ContentsLaid s
   lies = laid s (all-passed s (no-refusal d n (g .operations) (g .errors) choices) (g .reads) .contents)
 
   pub few-choices : length (partOf s 16) ≤ 4096
   few-choices = omega (arith, part-length s 16 (g .bodies .third), short (lengthOf s 16) 1 4096 (lies .third .whole))
 
-  module _ {operations errors : ℕ} (reads : readBook s ≡ accepted d n operations errors choices) (tray : List ℕ) (table : tabled tray ≡ true) (good : badShot d n operations tray ≡ Nowhere) where
+  module _ {operations errors : ℕ} (reads : readBook s ≡ accepted d n operations errors choices) (tray : List ℕ) (table : tableFits tray ≡ true) (good : badShot d n operations tray ≡ Nowhere) where
     shot-accepted : (i : ℕ) → i < shotsIn tray → Accepted d n (operationsOf d n (partOf s 4)) (errorsOf (shotBody tray i)) (partOf s 16)
     shot-accepted i l =
         let m = accepted-means s d n operations errors choices reads in
@@ -44,7 +44,7 @@ module _ (s : List ℕ) {d n choices : ℕ} (g : Handed s d n choices) where
         let one = shot-good d n operations tray good i l in
         record {
           operations = g .lists .operations;
-          strikes = strikes d n operations (shotBody tray i) one;
+          errors-in-order = errors-in-order d n operations (shotBody tray i) one;
           places = λ j h. rw (← count) (places d n operations (shotBody tray i) one j h);
           one-each = g .lists .one-each;
           below = g .lists .below;
@@ -52,15 +52,14 @@ module _ (s : List ℕ) {d n choices : ℕ} (g : Handed s d n choices) where
 
     pub ready : (t : List ℕ) → Valid d n t → Ready d n tray t (partOf s 4) (partOf s 16)
     ready t ok =
-        let h = tabled-says tray table in
+        let h = table-says tray table in
         record {
           dimension = g .dimension;
           qudits = g .qudits;
           circuit = without-errors (g .lists);
           few = omega (arith, part-length s 4 (g .bodies .first), short (lengthOf s 4) 4 4096 (lies .first .whole));
           short = few-choices;
-          shots = h .few;
-          lies = record { table = table-inside tray h; inside = body-inside tray h };
+          lies = record { shots = h .few; table = table-inside tray h; inside = body-inside tray h };
           errors = shot-accepted;
           tableau = ok;
         }

@@ -1,8 +1,8 @@
 // The run of a tray.
 ghost use mathlib.Core.Path.{_≡_};
 ghost use Prim.Native.Nat.{_≤_};
-ghost use Rattle.shots.specs.Shots.{trayRoomy, trayBook};
-use body::Reading;
+ghost use Rattle.shots.specs.Shots.{trayBuffersFit, trayBook};
+use book_body::Reading;
 use search::Place;
 
 // What a tray run returns: 0, the number of clean shots and the number of shifted ones; or a refusal's number, its place and 0.
@@ -24,9 +24,11 @@ fn refused(number: usize, place: usize) -> TrayAnswer
 }
 
 // Whether tableau and buffer are as long as they must be.
-fn is_roomy(t: &[u8], out: &[u8], measurements: usize, shots: usize, n: usize) -> bool
-    requires { ⌜ (n ≤ 64) × (measurements ≤ 4096) × (shots ≤ 4096) ⌝ }
-    ensures { λ r. ⌜ r ≡ trayRoomy n measurements shots (now (t .entry)) (now (out .entry)) ⌝ }
+fn buffers_fit(t: &[u8], out: &[u8], measurements: usize, shots: usize, n: usize) -> bool
+    requires { ⌜ (n ≤ 64)
+        × (measurements ≤ 4096)
+        × (shots ≤ 4096) ⌝ }
+    ensures { λ r. ⌜ r ≡ trayBuffersFit n measurements shots (now (t .entry)) (now (out .entry)) ⌝ }
 {
     (2 * n * (2 * n + 1) <= t.len()) & (shots * (1 + 2 * measurements) <= out.len())
 }
@@ -40,19 +42,19 @@ pub fn tray_run(book: &[u8], tray: &[u8], t: &[u8], out: &mut [u8]) -> TrayAnswe
     let numbers = match reading {
         Reading::Accepted(numbers) => numbers,
         Reading::Refused { number, place } => {
-            return refused(entries::wide(number), place);
+            return refused(casts::byte_as_usize(number), place);
         }
     };
     let d = numbers.d;
     let n = numbers.n;
-    if !tray::is_tabled(tray) {
+    if !tray::table_fits(tray) {
         return refused(11, 0);
     }
     if let Place::At(shot) = tray::bad_shot(tray, numbers.operations, d, n) {
         return refused(6, shot);
     }
-    let shots = entries::word(tray, 0);
-    if !is_roomy(t, out, numbers.choices, shots, n) {
+    let shots = book_entries::word(tray, 0);
+    if !buffers_fit(t, out, numbers.choices, shots, n) {
         return refused(8, 0);
     }
     if !tableau_test::is_valid(t, d, n) {
@@ -62,8 +64,8 @@ pub fn tray_run(book: &[u8], tray: &[u8], t: &[u8], out: &mut [u8]) -> TrayAnswe
         out,
         tray,
         t,
-        book::part_of(book, 4),
-        book::part_of(book, 16),
+        book::operations(book),
+        book::choices(book),
         d,
         n,
     );

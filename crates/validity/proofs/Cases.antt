@@ -5,7 +5,7 @@ use mathlib.Core.List.{[]}
 use Rattle.modular.specs.Dimension.{listed}
 use Rattle.validity.specs.Validity.{testNumber}
 
--- with both wrong, 2 wins
-pub both-wrong : testNumber 4 0 [] ≡ 2
+-- a buffer that is too short is refused by 8, whatever it holds
+pub too-short : testNumber 3 1 [] ≡ 8
 unfolding listed testNumber
-both-wrong = refl
+too-short = refl

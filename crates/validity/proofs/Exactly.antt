@@ -16,7 +16,7 @@ use Rattle.row.specs.Row.{pairing}
 use Rattle.search.specs.Search.{all}
 use Rattle.search.proofs.Search.{both, all-at, all-from}
 use Rattle.tableau.specs.Tableau.{Tableau, row}
-use Rattle.weyl.proofs.Laws.{pairing-self, pairing-opposite}
+use Rattle.row_laws.proofs.Laws.{pairing-self, pairing-opposite}
 use Rattle.validity.specs.Validity.{byteBelow, pairsWell, rowValid, valid, Valid, ValidExactly}
 
 -- room, and bytes that pass their test

@@ -4,12 +4,13 @@ use mathlib.Core.Bool.{Bool, true, cond, _&&_}
 use mathlib.Core.Logic.{_↔_}
 use mathlib.Core.List.{List}
 use Prim.Native.Nat.{ℕ, _+_, _*_, _<_, _≤_}
-use lib.Dec.{eqb, ltb, leb}
+use lib.Dec.{eqb, ltb}
 use lib.ListN.{length, getD}
-use Rattle.modular.specs.Dimension.{Dimension, listed}
+use Rattle.modular.specs.Dimension.{Dimension}
 use Rattle.row.specs.Row.{pairing}
 use Rattle.search.specs.Search.{unless, all}
-use Rattle.tableau.specs.Tableau.{sized, row}
+use Rattle.tableau.specs.Tableau.{row}
+use Rattle.answer.specs.Shape.{shapeNumber}
 
 -- A tableau is valid when every byte is below d, stabilizer i paired with destabilizer i gives 1, and any two rows that aren't
 -- such partners give 0. Each two rows are paired once, the later with the earlier.
@@ -37,6 +38,4 @@ ValidExactly = (d n : ℕ) → Dimension d → (t : List ℕ) → 2 * n * (2 * n
 
 -- The tableau test: 2, 3, 8, 9. It changes no byte.
 unfoldable pub testNumber : ℕ → ℕ → List ℕ → ℕ
-testNumber d n t =
-    unless (listed d) 2
-    (unless (sized n) 3 (unless (leb (2 * n * (2 * n + 1)) (length t)) 8 (unless (valid d n t) 9 0)))
+testNumber d n t = shapeNumber d n t (unless (valid d n t) 9 0)

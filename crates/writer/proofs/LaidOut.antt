@@ -7,9 +7,9 @@ use native.Mathlib.Omega.{arith}
 use lib.ListN.{length, drop, length-append}
 use lib.Seq.{take-at, drop-at, drop-drop}
 use Rattle.tableau.specs.Tableau.{put}
-use Rattle.written.specs.Written.{headOf, bookOf}
-use Rattle.written.specs.Writer.{overwritten}
-use Rattle.written.proofs.Read.{book-length}
+use Rattle.written_book.specs.Written.{headOf, bookOf}
+use Rattle.written_book.specs.Writer.{overwritten}
+use Rattle.written_book.proofs.Read.{book-length}
 
 -- one part more, behind what is laid
 next : (xs ys out : List ℕ) (k : ℕ) → length xs ≡ k → put k (length ys) ys (xs ++ drop k out) ≡ (xs ++ ys) ++ drop (k + length ys) out

@@ -3,13 +3,13 @@ ghost use mathlib.Core.Path.{_≡_};
 ghost use Prim.Native.Nat.{_+_, _<_, _≤_};
 ghost use lib.ListN.{length};
 ghost use Rattle.tableau.specs.Tableau.{put};
-ghost use Rattle.body.specs.Body.{told};
-ghost use Rattle.written.specs.Written.{low, high, headOf, bookOf, badLengths, readParts};
-ghost use Rattle.written.specs.Writer.{overwritten, writeBook};
-use body::Reading;
-use body::length_fits;
+ghost use Rattle.book_body.specs.Body.{answerOf};
+ghost use Rattle.written_book.specs.Written.{low, high, headOf, bookOf, badLengths, readParts};
+ghost use Rattle.written_book.specs.Writer.{overwritten, writeBook};
+use answer::Answer;
+use book_body::Reading;
+use book_body::length_fits;
 use search::Place;
-use tableau::Answer;
 
 // A number's two bytes.
 fn low(x: usize) -> u8
@@ -27,7 +27,9 @@ fn high(x: usize) -> u8
 
 // Header and table of contents, for bodies of a, b and c bytes.
 fn head_of(d: u8, n: u8, a: usize, b: usize, c: usize) -> [u8; 22]
-    requires { ⌜ (a ≤ 16384) × (b ≤ 10240) × (c ≤ 4096) ⌝ }
+    requires { ⌜ (a ≤ 16384)
+        × (b ≤ 10240)
+        × (c ≤ 4096) ⌝ }
     ensures { λ r. ⌜ r ≡ headOf d n a b c ⌝ }
 {
     let second = 22 + a;
@@ -103,7 +105,7 @@ fn bad_lengths(a: usize, b: usize, c: usize) -> Place
 
 // What the reader would tell of the book: its refusal by 2 to 7, or its numbers.
 fn read_parts(ops: &[u8], errors: &[u8], choices: &[u8], d: usize, n: usize) -> Reading
-    ensures { λ r. ⌜ told r ≡ readParts d n (now (ops .entry)) (now (errors .entry)) (now (choices .entry)) ⌝ }
+    ensures { λ r. ⌜ answerOf r ≡ readParts d n (now (ops .entry)) (now (errors .entry)) (now (choices .entry)) ⌝ }
 {
     if !modular::is_listed(d) {
         return Reading::Refused {
@@ -120,7 +122,7 @@ fn read_parts(ops: &[u8], errors: &[u8], choices: &[u8], d: usize, n: usize) -> 
     if let Place::At(place) = bad_lengths(ops.len(), errors.len(), choices.len()) {
         return Reading::Refused { number: 4, place };
     }
-    body::read_bodies(ops, errors, choices, d as u8, n)
+    book_body::read_bodies(ops, errors, choices, d as u8, n)
 }
 
 // Writes the book and returns 0 and the number of its bytes; or refuses what the reader would refuse, with that number and place,
@@ -138,17 +140,11 @@ pub fn write(
 {
     let reading = read_parts(ops, errors, choices, d, n);
     if let Reading::Refused { number, place } = reading {
-        return Answer {
-            number: entries::wide(number),
-            place,
-        };
+        return answer::refused(casts::byte_as_usize(number), place);
     }
     let place = 22 + ops.len() + errors.len() + choices.len();
     if out.len() < place {
-        return Answer {
-            number: 8,
-            place: 0,
-        };
+        return answer::refused(8, 0);
     }
     lay_book(out, ops, errors, choices, d as u8, n as u8);
     Answer { number: 0, place }

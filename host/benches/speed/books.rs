@@ -44,7 +44,7 @@ pub fn full(mix: Mix, d: u8, n: u8) -> Book {
     for k in 0..MAX_OPERATIONS {
         if k % (MAX_OPERATIONS / MAX_ERRORS) == 0 {
             let (p, s) = (rng.byte_below(d), rng.byte_below(d));
-            book.strike(rng.byte_below(n), p, s);
+            book.error(rng.byte_below(n), p, s);
         }
         match mix {
             Mix::Mixed => mixed(&mut rng, k, &mut book),
@@ -115,7 +115,7 @@ pub fn of_one_gate(d: u8, n: u8, gate: Operation, count: usize) -> Book {
 pub fn of_one_error(d: u8, n: u8) -> Book {
     let mut book = Book::new(d, n);
     for _ in 0..MAX_ERRORS {
-        book.strike(9 % n, 1, 2);
+        book.error(9 % n, 1, 2);
     }
     book
 }

@@ -46,9 +46,9 @@ impl Job {
 }
 
 /// A number, its place and, from the frame run, the verdict.
-pub type Told = (usize, usize, usize);
+pub type Returned = (usize, usize, usize);
 
-pub type Call = fn(&Job, &mut Lent) -> Told;
+pub type Call = fn(&Job, &mut Lent) -> Returned;
 
 /// The same call by Cagvost, by the tuned Rust and by the plain Rust. A run is also made by the tuned
 /// Rust with even phases.
@@ -68,13 +68,13 @@ pub const TEST: Columns<3> = [
 
 pub const DIRECT: Columns<4> = [
     |job, Lent { run, .. }| {
-        let told = cagvost::direct_run(&job.book, &mut run.tableau, &mut run.results);
-        numbers(told)
+        let returned = cagvost::direct_run(&job.book, &mut run.tableau, &mut run.results);
+        numbers(returned)
     },
     tuned_direct::<Specified>,
     |job, Lent { run, .. }| {
-        let told = plain::direct_run(&job.book, &mut run.tableau, &mut run.results);
-        widen(told)
+        let returned = plain::direct_run(&job.book, &mut run.tableau, &mut run.results);
+        widen(returned)
     },
     tuned_direct::<Even>,
 ];
@@ -86,12 +86,12 @@ pub const FRAME: Columns<4> = [
     tuned_frame::<Even>,
 ];
 
-fn tuned_direct<P: Phases>(job: &Job, Lent { run, .. }: &mut Lent) -> Told {
-    let told = tuned::direct_run::<P>(&job.book, &mut run.tableau, &mut run.results);
-    widen(told)
+fn tuned_direct<P: Phases>(job: &Job, Lent { run, .. }: &mut Lent) -> Returned {
+    let returned = tuned::direct_run::<P>(&job.book, &mut run.tableau, &mut run.results);
+    widen(returned)
 }
 
-fn tuned_frame<P: Phases>(job: &Job, Lent { run, .. }: &mut Lent) -> Told {
+fn tuned_frame<P: Phases>(job: &Job, Lent { run, .. }: &mut Lent) -> Returned {
     tuned::frame_run::<P>(
         &job.book,
         &mut run.tableau,
@@ -117,13 +117,13 @@ pub const WRITE: Columns<3> = [
     },
 ];
 
-fn numbers(told: Result<usize, Refusal>) -> Told {
-    match told {
+fn numbers(returned: Result<usize, Refusal>) -> Returned {
+    match returned {
         Ok(count) => (0, count, 0),
         Err(refusal) => (refusal.number(), refusal.place(), 0),
     }
 }
 
-fn widen((number, place): plain::Told) -> Told {
+fn widen((number, place): plain::Returned) -> Returned {
     (number, place, 0)
 }

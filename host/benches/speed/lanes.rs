@@ -6,14 +6,14 @@
 //! - A power of a gate is one pass over the lanes too, on 16 bits with one reduction.
 //! - For every place there is a linked list of the lanes whose next error is there. The library
 //!   keeps lists for 256 places at a time instead, which are easier to prove and somewhat slower.
-//! - Results are gathered in tiles of 64 measurements by 256 lanes, and turned by shuffles of whole
-//!   halves, which are vectors too.
+//! - Results are gathered in tiles of 64 measurements by 256 lanes, and transposed by shuffles of
+//!   whole halves, which are vectors too.
 //! - Verdicts are worked out lane by lane, as far as the first stabilizer that is shifted. 16 lanes
 //!   together would all have to wait for the last of them: where shots have few errors, that took
 //!   twice as long.
 
 use crate::tuned::{
-    Book, Modulo, Specified, Told, add, dot, is_power, is_valid, read, run_rows, tableau_len,
+    Book, Modulo, Returned, Specified, add, dot, is_power, is_valid, read, run_rows, tableau_len,
     two_bytes,
 };
 use cagvost::book::MAX_OPERATIONS;
@@ -47,7 +47,7 @@ fn subtract(d: u8, x: u8, y: u8) -> u8 {
     rest.min(rest.wrapping_add(d))
 }
 
-fn turn(d: u8, x: &mut Line, z: &mut Line) {
+fn fourier(d: u8, x: &mut Line, z: &mut Line) {
     for (x, z) in x.iter_mut().zip(z) {
         (*x, *z) = (subtract(d, 0, *z), *x);
     }
@@ -110,7 +110,7 @@ fn gate(x: &mut [Line; QUDITS], z: &mut [Line; QUDITS], entry: &[u8], m: &Modulo
         usize::from(entry[2]) % QUDITS,
     );
     match entry[0] {
-        0 => turn(d, &mut x[q], &mut z[q]),
+        0 => fourier(d, &mut x[q], &mut z[q]),
         1 => gain(d, &mut z[q], &x[q]),
         2 => {
             let [control, target] = two(x, q, t);
@@ -149,7 +149,7 @@ fn power(x: &mut [Line; QUDITS], z: &mut [Line; QUDITS], entry: &[u8], d: u8) {
             negate(d, &mut z[q]);
         }
         // Three times is backwards.
-        (0, _) => turn(d, &mut z[q], &mut x[q]),
+        (0, _) => fourier(d, &mut z[q], &mut x[q]),
         (1, _) => gain_times(d, &mut z[q], &x[q], k),
         (2, _) => {
             let [control, target] = two(x, q, t);
@@ -220,18 +220,18 @@ impl Block {
         self.next[lane] = start as u32;
         self.end[lane] = end as u32;
         self.shots[lane] = shot;
-        self.wait(lane as u16, two_bytes(tray, start));
+        self.enqueue(lane as u16, two_bytes(tray, start));
         self.used += 1;
     }
 
-    fn wait(&mut self, lane: u16, place: usize) {
+    fn enqueue(&mut self, lane: u16, place: usize) {
         self.after[usize::from(lane) % LANES] = self.first[place];
         self.first[place] = lane;
     }
 
     /// The errors of this place, in every lane that has one.
     #[inline(never)]
-    fn strike(&mut self, tray: &[u8], place: usize, d: u8) {
+    fn apply_errors(&mut self, tray: &[u8], place: usize, d: u8) {
         let mut lane = self.first[place];
         while lane != NONE {
             let l = usize::from(lane) % LANES;
@@ -248,7 +248,7 @@ impl Block {
                 }
                 let next = two_bytes(tray, at);
                 if next != place {
-                    self.wait(lane, next);
+                    self.enqueue(lane, next);
                     break;
                 }
             }
@@ -260,7 +260,7 @@ impl Block {
     /// Runs the block and empties it. How many of its shots were shifted.
     fn run(&mut self, circuit: &Circuit, out: &mut [u8]) -> usize {
         self.carry(circuit, out);
-        let shifted = self.judge(circuit, out);
+        let shifted = self.write_verdicts(circuit, out);
         self.x.as_flattened_mut().fill(0);
         self.z.as_flattened_mut().fill(0);
         self.first.fill(NONE);
@@ -274,7 +274,7 @@ impl Block {
         let (mut done, mut held) = (0, 0);
         for (k, entry) in circuit.book.operations.chunks_exact(4).enumerate() {
             if self.first[k] != NONE {
-                self.strike(tray, k, d);
+                self.apply_errors(tray, k, d);
             }
             if is_power(entry) {
                 power(&mut self.x, &mut self.z, entry, d);
@@ -295,7 +295,7 @@ impl Block {
                 held = 0;
             }
         }
-        self.strike(tray, circuit.book.operations.len() / 4, d);
+        self.apply_errors(tray, circuit.book.operations.len() / 4, d);
     }
 
     /// Writes the results of `held` measurements from `base` on.
@@ -313,7 +313,7 @@ impl Block {
         }
         for (lane, &shot) in self.tile.chunks_exact(TILE).zip(&self.shots[..self.used]) {
             let start = shot * circuit.width() + 1 + 2 * base;
-            weave(
+            interleave(
                 &lane[..held],
                 &marks[..held],
                 &mut out[start..start + 2 * held],
@@ -322,7 +322,7 @@ impl Block {
     }
 
     /// Writes the verdicts. How many shots were shifted.
-    fn judge(&self, circuit: &Circuit, out: &mut [u8]) -> usize {
+    fn write_verdicts(&self, circuit: &Circuit, out: &mut [u8]) -> usize {
         let mut shifted = 0;
         for (lane, shot) in self.shots[..self.used].iter().enumerate() {
             let verdict = self.is_shifted(circuit, lane);
@@ -361,7 +361,7 @@ fn shuffle(from: &[u8; TILE * LANES], to: &mut [u8; TILE * LANES]) {
 
 /// Results and marks by turns.
 #[inline(never)]
-fn weave(results: &[u8], marks: &[u8], out: &mut [u8]) {
+fn interleave(results: &[u8], marks: &[u8], out: &mut [u8]) {
     let pairs = results.iter().zip(marks);
     for (out, (&result, &mark)) in out.chunks_exact_mut(2).zip(pairs) {
         out[0] = result;
@@ -402,9 +402,9 @@ fn start<'a>(
     tray: &'a [u8],
     tableau: &[u8],
     out: &[u8],
-) -> Result<Circuit<'a>, Told> {
+) -> Result<Circuit<'a>, Returned> {
     let mut book = read(book)?;
-    if !is_tabled(tray) {
+    if !table_fits(tray) {
         return Err((11, 0));
     }
     let limits = Limits::new(&book);
@@ -443,7 +443,7 @@ fn bodies(tray: &[u8]) -> impl Iterator<Item = [usize; 2]> {
 }
 
 /// Whether the tray has a good table of contents, and just the bodies that it says.
-fn is_tabled(tray: &[u8]) -> bool {
+fn table_fits(tray: &[u8]) -> bool {
     if tray.len() < 2 || two_bytes(tray, 0) > 4096 {
         return false;
     }

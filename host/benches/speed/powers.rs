@@ -47,8 +47,8 @@ impl Lines {
         let count = MAX_OPERATIONS / times;
         let job = self.job(with_times(power, 1), count * times);
         let [singly, together] = [&job, &self.job(power, count)].map(|job| {
-            let (told, left) = compare(job, columns);
-            (told, left.run)
+            let (returned, left) = compare(job, columns);
+            (returned, left.run)
         });
         assert!(singly == together, "{label}");
         let label = format!("{label}, {times} in {times} entries");

@@ -1,6 +1,6 @@
 //! Timing by turns, and the table.
 
-use crate::calls::{CAGVOST, Call, Columns, EVEN, Job, Lent, PLAIN, TUNED, Told};
+use crate::calls::{CAGVOST, Call, Columns, EVEN, Job, Lent, PLAIN, Returned, TUNED};
 use std::array;
 use std::hint::black_box;
 use std::time::{Duration, Instant};
@@ -83,11 +83,11 @@ fn rounds<const N: usize, const J: usize>(
             for (j, job) in jobs.iter().enumerate() {
                 refill(&mut buffers[j], &job.before);
                 let start = Instant::now();
-                let told = columns[i](black_box(job), black_box(&mut buffers[j]));
+                let returned = columns[i](black_box(job), black_box(&mut buffers[j]));
                 let time = start.elapsed();
                 times[j][i].push(time);
                 by_plain += if i == PLAIN { time } else { Duration::ZERO };
-                let left = (told, &buffers[j]);
+                let left = (returned, &buffers[j]);
                 assert!(left == (expected[j].0, &expected[j].1), "column {i}");
             }
         }
@@ -105,7 +105,7 @@ fn refill(buffers: &mut Lent, from: &Lent) {
 }
 
 /// What the columns agree in: the numbers and every byte. Each is called once.
-pub fn compare<const N: usize>(job: &Job, columns: &Columns<N>) -> (Told, Lent) {
+pub fn compare<const N: usize>(job: &Job, columns: &Columns<N>) -> (Returned, Lent) {
     let plain = leaves(job, columns[PLAIN]);
     for i in (0..N).filter(|&i| i != PLAIN) {
         let left = leaves(job, columns[i]);
@@ -115,8 +115,8 @@ pub fn compare<const N: usize>(job: &Job, columns: &Columns<N>) -> (Told, Lent) 
     plain
 }
 
-/// What a call tells and leaves.
-pub fn leaves(job: &Job, call: Call) -> (Told, Lent) {
+/// What a call returns and leaves.
+pub fn leaves(job: &Job, call: Call) -> (Returned, Lent) {
     let mut buffers = job.before.clone();
     (call(job, &mut buffers), buffers)
 }

@@ -1,7 +1,7 @@
 //! Trays: the package beside Rust lanes, separate frame runs and the plain Rust.
 
 use crate::books::dense_tableau;
-use crate::common::trays::{Lent, Told, draw_circuit_of, numbers, separate};
+use crate::common::trays::{Lent, Returned, draw_circuit_of, numbers, separate};
 use crate::common::{Rng, draw_error, draw_gate, draw_single, plain};
 use crate::lanes;
 use crate::timing::{Times, summary};
@@ -21,7 +21,7 @@ const FEW: usize = 2;
 const PLAIN_ROUNDS: usize = 2;
 
 /// Cagvost and the Rust lanes run the whole tray, separate runs and the plain Rust a few shots of it.
-const COLUMNS: [fn(&mut Lent) -> Told; 4] = [
+const COLUMNS: [fn(&mut Lent) -> Returned; 4] = [
     |lent| numbers(lent.by_library()),
     |lent| lanes::tray(&lent.book, &lent.tray, &lent.tableau, &mut lent.out),
     separate_runs,
@@ -29,7 +29,7 @@ const COLUMNS: [fn(&mut Lent) -> Told; 4] = [
 ];
 
 /// A frame run for each shot: its book is written, the tableau copied, and the run made.
-fn separate_runs(lent: &mut Lent) -> Told {
+fn separate_runs(lent: &mut Lent) -> Returned {
     let bodies = plain::tray_bodies(&lent.tray).expect("a drawn tray");
     let [operations, _, choices] = plain::read_contents(&lent.book).expect("a drawn book");
     let (d, n, mut ended) = (lent.book[1], lent.book[2], [0, 0]);
@@ -96,13 +96,13 @@ impl Job {
         if i < 2 { &self.whole } else { &self.few }
     }
 
-    /// What the columns tell and leave, which must agree.
-    fn compare(&self) -> [(Told, Vec<u8>); 4] {
+    /// What the columns return and leave, which must agree.
+    fn compare(&self) -> [(Returned, Vec<u8>); 4] {
         let left = [0, 1, 2, 3].map(|i| {
             let mut lent = self.lent(i).clone();
-            let told = COLUMNS[i](&mut lent);
-            assert_eq!(told.0, 0, "column {i}");
-            (told, lent.out)
+            let returned = COLUMNS[i](&mut lent);
+            assert_eq!(returned.0, 0, "column {i}");
+            (returned, lent.out)
         });
         let width = self.few.out.len() / FEW;
         assert!(left[0] == left[1] && left[2] == left[3]);
@@ -117,8 +117,8 @@ impl Job {
 fn draw_body(rng: &mut Rng, book: &Book, mean: f64) -> Vec<u8> {
     let end = book.operations().len();
     let chance = (mean / (end + 1) as f64 * 2f64.powi(53)) as u64;
-    let struck = (0..=end).filter(|_| rng.next() >> 11 < chance);
-    let places: Vec<usize> = struck.collect();
+    let noisy = (0..=end).filter(|_| rng.next() >> 11 < chance);
+    let places: Vec<usize> = noisy.collect();
     let error = |place| draw_error(rng, book.dimension(), book.qudits(), place);
     places
         .into_iter()
@@ -128,7 +128,7 @@ fn draw_body(rng: &mut Rng, book: &Book, mean: f64) -> Vec<u8> {
 }
 
 /// Times the columns by turns; buffers are refilled and compared off the clock.
-fn take(job: &Job) -> (Told, Times<4>) {
+fn take(job: &Job) -> (Returned, Times<4>) {
     let expected = job.compare();
     let mut times = <[Vec<Duration>; 4]>::default();
     let mut lents = [0, 1, 2, 3].map(|i| job.lent(i).clone());
@@ -144,9 +144,12 @@ fn take(job: &Job) -> (Told, Times<4>) {
             let lent = &mut lents[i];
             lent.out.copy_from_slice(&job.lent(i).out);
             let start = Instant::now();
-            let told = COLUMNS[i](black_box(lent));
+            let returned = COLUMNS[i](black_box(lent));
             times[i].push(start.elapsed());
-            assert!(told == expected[i].0 && lent.out == expected[i].1, "{i}");
+            assert!(
+                returned == expected[i].0 && lent.out == expected[i].1,
+                "{i}"
+            );
         }
     }
     (expected[0].0, summary(times))
@@ -158,7 +161,7 @@ type Fault = (usize, fn(&mut Lent));
 /// Cagvost, the Rust lanes and the plain Rust refuse alike. Nothing is timed.
 fn compare_refusals() {
     let mut book = draw_circuit_of(draw_single, &mut Rng(6), 5, 2, 3, 1);
-    book.strike(1, 1, 1);
+    book.error(1, 1, 1);
     let mut tray = Tray::new();
     tray.body(&[0, 0, 1, 4, 4, 4, 0, 0, 0, 4])
         .body(&[])

@@ -26,7 +26,7 @@ pub use even::Even;
 pub use specified::Specified;
 
 /// A returned number and its place.
-pub type Told = (usize, usize);
+pub type Returned = (usize, usize);
 
 /// The largest number of powers in a row.
 const POWERS: usize = 128;
@@ -194,8 +194,8 @@ fn centre(centred: &mut [i16; POWERS], powers: &[u8], d: u8) {
     }
 }
 
-/// A row as the left side of a pairing: Z powers, then X powers with their sign turned.
-fn twist(left: &mut [i16; POWERS], powers: &[i16; POWERS], n: usize) {
+/// A row as the left side of a pairing: Z powers, then X powers with their sign changed.
+fn left_side(left: &mut [i16; POWERS], powers: &[i16; POWERS], n: usize) {
     left[..n].copy_from_slice(&powers[n..2 * n]);
     for (left, &a) in left[n..].iter_mut().zip(&powers[..n]) {
         *left = -a;
@@ -257,7 +257,7 @@ pub fn is_valid(d: u8, n: usize, tableau: &[u8]) -> bool {
     let mut lefts = [[0; POWERS]; 2];
     (0..n).all(|g| {
         for (left, row) in lefts.iter_mut().zip(&rows[2 * g..]) {
-            twist(left, row, n);
+            left_side(left, row, n);
         }
         let lefts = lefts.each_ref().map(|left| &left[..2 * n]);
         let earlier = rows[..2 * g + 1].iter().enumerate();
@@ -429,7 +429,7 @@ fn power_frame(frame: &mut [u8], n: usize, entry: &[u8], m: &Modulo) {
 }
 
 /// An error on every row. It adds to every kind of phase alike.
-fn strike(rows: &mut [u8], n: usize, error: &[u8], m: &Modulo) {
+fn apply_error(rows: &mut [u8], n: usize, error: &[u8], m: &Modulo) {
     let (w, q) = (2 * n + 1, usize::from(error[2]));
     let (z, last) = (n + q, 2 * n);
     assert!(q < w && z < w && last < w);
@@ -556,7 +556,7 @@ pub struct Book<'a> {
 }
 
 /// Refusals 2 and 3.
-fn check_sizes(d: usize, n: usize) -> Result<(), Told> {
+fn check_sizes(d: usize, n: usize) -> Result<(), Returned> {
     if ![3, 5, 7, 11, 13, 17, 19, 23, 29, 31].contains(&d) {
         return Err((2, 0));
     }
@@ -571,7 +571,7 @@ pub fn two_bytes(bytes: &[u8], i: usize) -> usize {
 }
 
 /// The accepted book, or refusal 1 to 7.
-pub fn read(book: &[u8]) -> Result<Book<'_>, Told> {
+pub fn read(book: &[u8]) -> Result<Book<'_>, Returned> {
     if book.len() < 22 || book[0] != 81 || book[3] != 3 {
         return Err((1, 0));
     }
@@ -595,7 +595,7 @@ fn is_length(i: usize, length: usize) -> bool {
     length.is_multiple_of(sizes[i]) && length / sizes[i] <= limits[i]
 }
 
-fn bodies(book: &[u8]) -> Result<[&[u8]; 3], Told> {
+fn bodies(book: &[u8]) -> Result<[&[u8]; 3], Returned> {
     let mut ends = [22; 4];
     for (i, entry) in book[4..22].chunks_exact(6).enumerate() {
         let (offset, length) = (two_bytes(entry, 2), two_bytes(entry, 4));
@@ -623,8 +623,8 @@ fn is_operation(d: u32, n: u32, entry: &[u8]) -> bool {
         _ => d,
     };
     // The multiplier has no factor 0, and no power is spelled 1.
-    let barred = if code == 5 { 0 } else { 1 };
-    (code < 7) & (q < n) & second & (k < end) & (k != barred)
+    let excluded = if code == 5 { 0 } else { 1 };
+    (code < 7) & (q < n) & second & (k < end) & (k != excluded)
 }
 
 /// The bytes of an operation as one number, the code in the lowest bits.
@@ -633,13 +633,17 @@ fn code_first(entry: &[u8]) -> u32 {
 }
 
 /// Refusals 5 to 7.
-fn check_bodies(d: u8, n: usize, [operations, errors, choices]: [&[u8]; 3]) -> Result<(), Told> {
+fn check_bodies(
+    d: u8,
+    n: usize,
+    [operations, errors, choices]: [&[u8]; 3],
+) -> Result<(), Returned> {
     check_operations(d, n, operations)?;
     check_errors(d, n, operations.len() / 4, errors)?;
     check_choices(d, operations, choices)
 }
 
-fn check_operations(d: u8, n: usize, body: &[u8]) -> Result<(), Told> {
+fn check_operations(d: u8, n: usize, body: &[u8]) -> Result<(), Returned> {
     let is_good = |entry: &[u8]| is_operation(d.into(), n as u32, entry);
     let mut entries = body.chunks_exact(4);
     let all = entries.clone();
@@ -650,7 +654,7 @@ fn check_operations(d: u8, n: usize, body: &[u8]) -> Result<(), Told> {
     Err((5, first.expect("one is bad")))
 }
 
-fn check_errors(d: u8, n: usize, operations: usize, body: &[u8]) -> Result<(), Told> {
+fn check_errors(d: u8, n: usize, operations: usize, body: &[u8]) -> Result<(), Returned> {
     let mut lowest = 0;
     for (index, entry) in body.chunks_exact(5).enumerate() {
         let place = two_bytes(entry, 0);
@@ -663,7 +667,7 @@ fn check_errors(d: u8, n: usize, operations: usize, body: &[u8]) -> Result<(), T
     Ok(())
 }
 
-fn check_choices(d: u8, operations: &[u8], choices: &[u8]) -> Result<(), Told> {
+fn check_choices(d: u8, operations: &[u8], choices: &[u8]) -> Result<(), Returned> {
     let entries = operations.chunks_exact(4);
     let measures = entries.map(|entry| u32::from(code_first(entry) & 255 == 6));
     let measurements = measures.sum::<u32>() as usize;
@@ -694,9 +698,9 @@ pub fn tableau_len(n: usize) -> usize {
     2 * n * (2 * n + 1)
 }
 
-pub fn test(tableau: &[u8], d: usize, n: usize) -> Told {
-    if let Err(told) = check_sizes(d, n) {
-        return told;
+pub fn test(tableau: &[u8], d: usize, n: usize) -> Returned {
+    if let Err(returned) = check_sizes(d, n) {
+        return returned;
     }
     match tableau.get(..tableau_len(n)) {
         None => (8, 0),
@@ -706,10 +710,10 @@ pub fn test(tableau: &[u8], d: usize, n: usize) -> Told {
 }
 
 /// Writes the book of three bodies.
-pub fn write(bodies: [&[u8]; 3], d: usize, n: usize, out: &mut [u8]) -> Told {
+pub fn write(bodies: [&[u8]; 3], d: usize, n: usize, out: &mut [u8]) -> Returned {
     match check_all(bodies, d, n, out) {
         Ok(out) => (0, lay(bodies, d as u8, n as u8, out)),
-        Err(told) => told,
+        Err(returned) => returned,
     }
 }
 
@@ -719,7 +723,7 @@ fn check_all<'a>(
     d: usize,
     n: usize,
     out: &'a mut [u8],
-) -> Result<&'a mut [u8], Told> {
+) -> Result<&'a mut [u8], Returned> {
     check_sizes(d, n)?;
     if let Some(i) = (0..3).find(|&i| !is_length(i, bodies[i].len())) {
         return Err((4, i));
@@ -749,7 +753,7 @@ fn start<'a, 'b>(
     book: &'a [u8],
     tableau: &'b mut [u8],
     results: &[u8],
-) -> Result<(Book<'a>, &'b mut [u8]), Told> {
+) -> Result<(Book<'a>, &'b mut [u8]), Returned> {
     let book = read(book)?;
     let rows = tableau.get_mut(..tableau_len(book.n)).ok_or((8, 0))?;
     if results.len() < 2 * book.choices.len() {
@@ -758,11 +762,11 @@ fn start<'a, 'b>(
     Ok((book, rows))
 }
 
-/// The direct run: each error strikes every row at its place.
-pub fn direct_run<P: Phases>(book: &[u8], tableau: &mut [u8], results: &mut [u8]) -> Told {
+/// The direct run: each error is applied to every row at its place.
+pub fn direct_run<P: Phases>(book: &[u8], tableau: &mut [u8], results: &mut [u8]) -> Returned {
     let (book, rows) = match start(book, tableau, results) {
         Ok(started) => started,
-        Err(told) => return told,
+        Err(returned) => return returned,
     };
     if !is_valid(book.d, book.n, rows) {
         return (9, 0);
@@ -779,13 +783,13 @@ pub fn run_rows<P: Phases>(
     modulo: &Modulo,
 ) -> usize {
     P::enter(rows, book.n, modulo);
-    let measurements = strike_along::<P>(book, rows, results, modulo);
+    let measurements = apply_errors::<P>(book, rows, results, modulo);
     P::leave(rows, book.n, modulo);
     measurements
 }
 
 /// All operations and errors of a direct run. How many measurements there were.
-fn strike_along<P: Phases>(
+fn apply_errors<P: Phases>(
     book: &Book,
     rows: &mut [u8],
     results: &mut [u8],
@@ -795,7 +799,7 @@ fn strike_along<P: Phases>(
     let mut pivot = Pivot::new();
     for (k, entry) in book.operations.chunks_exact(4).enumerate() {
         while let Some(error) = take_error(&mut errors, k) {
-            strike(rows, n, error, modulo);
+            apply_error(rows, n, error, modulo);
         }
         if is_power(entry) {
             power::<P>(rows, n, entry, modulo);
@@ -811,7 +815,7 @@ fn strike_along<P: Phases>(
         done += 1;
     }
     for error in errors.chunks_exact(5) {
-        strike(rows, n, error, modulo);
+        apply_error(rows, n, error, modulo);
     }
     done
 }

@@ -130,7 +130,7 @@ impl State {
     }
 
     /// X^p Z^s: Z^s acts first.
-    pub fn strike(&mut self, error: WeylError) {
+    pub fn apply_error(&mut self, error: WeylError) {
         let WeylError { qudit, p, s: z, .. } = error;
         let d = self.d;
         self.diagonal(|s, i| usize::from(z) * s.level(i, qudit));
@@ -145,7 +145,7 @@ impl State {
         for q in 0..n {
             let (p, s) = (row[q], row[n + q]);
             let (place, qudit) = (0, q as u8);
-            self.strike(WeylError { place, qudit, p, s });
+            self.apply_error(WeylError { place, qudit, p, s });
         }
     }
 
@@ -219,14 +219,14 @@ impl State {
     fn fourier(&mut self, q: usize) {
         let (d, stride) = (self.d, self.strides[q]);
         let scale = 1.0 / (d as f64).sqrt();
-        let mut turned = vec![Complex::ZERO; self.amplitudes.len()];
+        let mut moved = vec![Complex::ZERO; self.amplitudes.len()];
         for (from, &amplitude) in self.amplitudes.iter().enumerate() {
             let j = from / stride % d;
             for i in 0..d {
                 let to = from - j * stride + i * stride;
-                turned[to] += (amplitude * self.roots[i * j % d]).scaled(scale);
+                moved[to] += (amplitude * self.roots[i * j % d]).scaled(scale);
             }
         }
-        self.amplitudes = turned;
+        self.amplitudes = moved;
     }
 }

@@ -40,14 +40,14 @@ impl Buffers {
 
     /// A frame run: its number, its place or measurements, and the verdict.
     pub fn by_library(&mut self, book: &[u8]) -> (usize, usize, usize) {
-        let told = cagvost::frame_run(
+        let returned = cagvost::frame_run(
             book,
             &mut self.tableau,
             &mut self.results,
             &mut self.shifts,
             &mut self.frame,
         );
-        match told {
+        match returned {
             Ok(FrameRun {
                 measurements,
                 verdict,
@@ -73,14 +73,14 @@ impl Buffers {
 pub fn carry_both(book: &[u8], before: &Buffers) -> ((usize, usize, usize), Buffers) {
     let lent = book.to_vec();
     let (mut left, mut expected) = (before.clone(), before.clone());
-    let told = left.by_library(&lent);
-    assert_eq!(told, expected.by_plain(book), "numbers of {book:02x?}");
+    let returned = left.by_library(&lent);
+    assert_eq!(returned, expected.by_plain(book), "numbers of {book:02x?}");
     assert!(left == expected, "bytes of {book:02x?}");
     assert!(lent == book, "the book was written: {book:02x?}");
-    if told.0 != 0 {
-        assert!(left == *before, "{told:?} changed a buffer");
+    if returned.0 != 0 {
+        assert!(left == *before, "{returned:?} changed a buffer");
     } else {
         assert_eq!(test_of(book, &left.tableau), (0, 0), "after {book:02x?}");
     }
-    (told, left)
+    (returned, left)
 }

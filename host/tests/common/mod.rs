@@ -28,7 +28,7 @@ pub fn paper_book() -> Book {
     let mut book = Book::new(3, 2);
     book.operation(Operation::Fourier { q: 0, times: 1 })
         .operation(sum(0, 1))
-        .strike(1, 1, 0)
+        .error(1, 1, 0)
         .measure(0, 2)
         .measure(1, 0);
     assert_eq!(book.to_bytes(), PAPER_BOOK);
@@ -38,7 +38,7 @@ pub fn paper_book() -> Book {
 /// A book with so many operations (all measurements), errors and choices.
 pub fn counted(operations: usize, errors: usize, choices: usize) -> Book {
     let mut book = Book::new(3, 1);
-    (0..errors).for_each(|_| _ = book.strike(0, 1, 2));
+    (0..errors).for_each(|_| _ = book.error(0, 1, 2));
     (0..operations).for_each(|_| _ = book.operation(Operation::Measure { q: 0 }));
     (0..choices).for_each(|_| _ = book.choice(2));
     book
@@ -233,7 +233,7 @@ pub fn draw_book(rng: &mut Rng, shape: Shape) -> Book {
     for k in 0..=shape.operations {
         while places.next_if_eq(&k).is_some() {
             let (p, s) = (rng.byte_below(shape.d), rng.byte_below(shape.d));
-            book.strike(rng.byte_below(shape.n), p, s);
+            book.error(rng.byte_below(shape.n), p, s);
         }
         if k == shape.operations {
             break;
@@ -258,12 +258,12 @@ pub fn draw_book(rng: &mut Rng, shape: Shape) -> Book {
     book
 }
 
-/// A book that strikes each qudit with powers that are not 0, so that what becomes of each is seen.
-pub fn draw_struck(rng: &mut Rng, d: u8, n: u8) -> Book {
+/// A book with an error on each qudit. No power is 0, so that what becomes of each is seen.
+pub fn draw_noisy(rng: &mut Rng, d: u8, n: u8) -> Book {
     let mut book = Book::new(d, n);
     for q in 0..n {
         let [p, s] = [0, 0].map(|_| 1 + rng.byte_below(d - 1));
-        book.strike(q, p, s);
+        book.error(q, p, s);
     }
     book
 }
@@ -279,7 +279,7 @@ pub fn draw_error(rng: &mut Rng, d: u8, n: u8, place: usize) -> WeylError {
     }
 }
 
-/// The same operations and choices, struck by nothing.
+/// The same operations and choices, without errors.
 pub fn without_errors(book: &Book) -> Book {
     let mut clean = Book::new(book.dimension(), book.qudits());
     book.operations()
@@ -329,7 +329,7 @@ pub fn with_tail(rng: &mut Rng, mut bytes: Vec<u8>) -> Vec<u8> {
 // ---- Comparing
 
 /// A result as the specification's two numbers.
-pub fn told(result: Result<usize, Refusal>) -> plain::Told {
+pub fn returned(result: Result<usize, Refusal>) -> plain::Returned {
     match result {
         Ok(count) => (0, count),
         Err(refusal) => (refusal.number(), refusal.place()),
@@ -361,7 +361,7 @@ impl Verdicts {
 /// A direct run and what it left.
 #[derive(Debug, PartialEq, Eq)]
 pub struct Run {
-    pub told: plain::Told,
+    pub returned: plain::Returned,
     pub tableau: Vec<u8>,
     pub results: Vec<u8>,
 }
@@ -375,7 +375,7 @@ pub fn run_both(book: &[u8], tableau: &[u8], results: &[u8]) -> Run {
         (tableau.to_vec(), results.to_vec()),
         (tableau.to_vec(), results.to_vec()),
     );
-    let answer = told(cagvost::direct_run(
+    let answer = returned(cagvost::direct_run(
         &lent,
         &mut by_library.0,
         &mut by_library.1,
@@ -392,21 +392,21 @@ pub fn run_both(book: &[u8], tableau: &[u8], results: &[u8]) -> Run {
         assert_eq!(test_of(book, &by_library.0), (0, 0), "after {book:02x?}");
     }
     Run {
-        told: answer,
+        returned: answer,
         tableau: by_library.0,
         results: by_library.1,
     }
 }
 
 /// Tests a tableau for the dimension and the qudits of an accepted book, by both.
-pub fn test_of(book: &[u8], tableau: &[u8]) -> plain::Told {
+pub fn test_of(book: &[u8], tableau: &[u8]) -> plain::Returned {
     test_both(tableau, book[1].into(), book[2].into())
 }
 
 /// Lays the zero tableau on a copy of the buffer by both, which must agree; a refusal must leave it.
-pub fn layer_both(tableau: &[u8], d: usize, n: usize) -> (plain::Told, Vec<u8>) {
+pub fn layer_both(tableau: &[u8], d: usize, n: usize) -> (plain::Returned, Vec<u8>) {
     let (mut by_library, mut by_plain) = (tableau.to_vec(), tableau.to_vec());
-    let answer = told(cagvost::layer(&mut by_library, d, n).map(|()| 0));
+    let answer = returned(cagvost::layer(&mut by_library, d, n).map(|()| 0));
     assert_eq!(
         answer,
         plain::layer(&mut by_plain, d, n),
@@ -420,9 +420,9 @@ pub fn layer_both(tableau: &[u8], d: usize, n: usize) -> (plain::Told, Vec<u8>) 
 }
 
 /// Tests a copy of the buffer by both, which must agree; no byte may change.
-pub fn test_both(tableau: &[u8], d: usize, n: usize) -> plain::Told {
+pub fn test_both(tableau: &[u8], d: usize, n: usize) -> plain::Returned {
     let lent = tableau.to_vec();
-    let answer = told(cagvost::test_tableau(&lent, d, n).map(|()| 0));
+    let answer = returned(cagvost::test_tableau(&lent, d, n).map(|()| 0));
     assert_eq!(answer, plain::test(tableau, d, n), "test of d {d} n {n}");
     assert!(lent == tableau, "the test wrote the tableau");
     answer
@@ -436,12 +436,17 @@ pub fn slices(bodies: &[Vec<u8>; 3]) -> [&[u8]; 3] {
 /// Writes the book of three bodies on a copy of the buffer by both, which must agree in each number
 /// and byte. No body may change, a refusal must leave the buffer, and a success what is past the
 /// book.
-pub fn write_both(bodies: &[Vec<u8>; 3], d: usize, n: usize, out: &[u8]) -> (plain::Told, Vec<u8>) {
+pub fn write_both(
+    bodies: &[Vec<u8>; 3],
+    d: usize,
+    n: usize,
+    out: &[u8],
+) -> (plain::Returned, Vec<u8>) {
     let lent = bodies.clone();
     let (mut by_library, mut by_plain) = (out.to_vec(), out.to_vec());
     let [operations, errors, choices] = slices(&lent);
     let written = cagvost::write_book(d, n, operations, errors, choices, &mut by_library);
-    let answer = told(written);
+    let answer = returned(written);
     let expected = plain::write(slices(bodies), d, n, &mut by_plain);
     assert_eq!(answer, expected, "d {d} n {n} of {bodies:02x?}");
     assert!(by_library == by_plain, "bytes of d {d} n {n} {bodies:02x?}");

@@ -3,7 +3,7 @@
 //! It uses nothing of the package, so that no fault of the package can hide in both.
 
 /// A returned number and its place.
-pub type Told = (usize, usize);
+pub type Returned = (usize, usize);
 
 // ---- Rows
 
@@ -234,7 +234,7 @@ pub struct Error {
 }
 
 /// The error on one row.
-pub fn strike(d: i64, error: Error, row: &mut Row) {
+pub fn apply_error(d: i64, error: Error, row: &mut Row) {
     let Error { q, p, s, .. } = error;
     row.r = modulo(d, row.r + s * row.a[q] - p * row.b[q]);
 }
@@ -345,7 +345,7 @@ fn count_measurements(operations: &[Op]) -> usize {
 }
 
 /// Refusals 2 and 3.
-fn check_sizes(d: usize, n: usize) -> Result<(), Told> {
+fn check_sizes(d: usize, n: usize) -> Result<(), Returned> {
     if ![3, 5, 7, 11, 13, 17, 19, 23, 29, 31].contains(&d) {
         return Err((2, 0));
     }
@@ -356,7 +356,7 @@ fn check_sizes(d: usize, n: usize) -> Result<(), Told> {
 }
 
 /// The accepted book, or refusal 1 to 7.
-pub fn read(book: &[u8]) -> Result<Book, Told> {
+pub fn read(book: &[u8]) -> Result<Book, Returned> {
     if book.len() < 22 || book[0] != 81 || book[3] != 3 {
         return Err((1, 0));
     }
@@ -380,7 +380,7 @@ fn two_bytes(bytes: &[u8], i: usize) -> usize {
 }
 
 /// The three bodies, or refusal 4.
-pub fn read_contents(book: &[u8]) -> Result<[&[u8]; 3], Told> {
+pub fn read_contents(book: &[u8]) -> Result<[&[u8]; 3], Returned> {
     let (sizes, limits) = ([4, 5, 1], [4096, 2048, 4096]);
     let mut ends = [22; 4];
     for i in 0..3 {
@@ -399,14 +399,14 @@ pub fn read_contents(book: &[u8]) -> Result<[&[u8]; 3], Told> {
     Ok([0, 1, 2].map(|i| &book[ends[i]..ends[i + 1]]))
 }
 
-fn read_operations(d: i64, n: usize, body: &[u8]) -> Result<Vec<Op>, Told> {
+fn read_operations(d: i64, n: usize, body: &[u8]) -> Result<Vec<Op>, Returned> {
     let entries = body.chunks(4).enumerate();
     entries
         .map(|(i, entry)| decode(d, n, entry).ok_or((5, i)))
         .collect()
 }
 
-fn read_errors(d: i64, n: usize, operations: usize, body: &[u8]) -> Result<Vec<Error>, Told> {
+fn read_errors(d: i64, n: usize, operations: usize, body: &[u8]) -> Result<Vec<Error>, Returned> {
     let mut errors = Vec::new();
     let mut lowest = 0;
     for (i, entry) in body.chunks(5).enumerate() {
@@ -426,7 +426,7 @@ fn read_errors(d: i64, n: usize, operations: usize, body: &[u8]) -> Result<Vec<E
     Ok(errors)
 }
 
-fn read_choices(d: i64, measurements: usize, body: &[u8]) -> Result<Vec<i64>, Told> {
+fn read_choices(d: i64, measurements: usize, body: &[u8]) -> Result<Vec<i64>, Returned> {
     if body.len() != measurements {
         return Err((7, body.len().min(measurements)));
     }
@@ -444,7 +444,7 @@ struct Shots {
 }
 
 /// Refusals 1 to 7 of the book, then 11, then 6 with the first shot that has a bad error.
-fn read_shots(book: &[u8], tray: &[u8]) -> Result<Shots, Told> {
+fn read_shots(book: &[u8], tray: &[u8]) -> Result<Shots, Returned> {
     let circuit = read(book)?;
     let bodies = tray_bodies(tray).ok_or((11, 0))?;
     let mut errors = Vec::new();
@@ -497,10 +497,10 @@ pub fn book_of(bodies: [&[u8]; 3], d: usize, n: usize) -> Vec<u8> {
 // ---- Calls
 
 /// Writes a book: its bytes are made first, and the reader judges them.
-pub fn write(bodies: [&[u8]; 3], d: usize, n: usize, out: &mut [u8]) -> Told {
+pub fn write(bodies: [&[u8]; 3], d: usize, n: usize, out: &mut [u8]) -> Returned {
     let book = book_of(bodies, d, n);
-    if let Err(told) = read(&book) {
-        return told;
+    if let Err(returned) = read(&book) {
+        return returned;
     }
     if out.len() < book.len() {
         return (8, 0);
@@ -510,9 +510,9 @@ pub fn write(bodies: [&[u8]; 3], d: usize, n: usize, out: &mut [u8]) -> Told {
 }
 
 /// Lays the zero tableau.
-pub fn layer(tableau: &mut [u8], d: usize, n: usize) -> Told {
-    if let Err(told) = check_sizes(d, n) {
-        return told;
+pub fn layer(tableau: &mut [u8], d: usize, n: usize) -> Returned {
+    if let Err(returned) = check_sizes(d, n) {
+        return returned;
     }
     if tableau.len() < tableau_len(n) {
         return (8, 0);
@@ -522,9 +522,9 @@ pub fn layer(tableau: &mut [u8], d: usize, n: usize) -> Told {
 }
 
 /// Tests a tableau.
-pub fn test(tableau: &[u8], d: usize, n: usize) -> Told {
-    if let Err(told) = check_sizes(d, n) {
-        return told;
+pub fn test(tableau: &[u8], d: usize, n: usize) -> Returned {
+    if let Err(returned) = check_sizes(d, n) {
+        return returned;
     }
     if tableau.len() < tableau_len(n) {
         return (8, 0);
@@ -535,11 +535,11 @@ pub fn test(tableau: &[u8], d: usize, n: usize) -> Told {
     (0, 0)
 }
 
-/// The direct run: each error strikes every row at its place.
-pub fn direct_run(book: &[u8], tableau: &mut [u8], results: &mut [u8]) -> Told {
+/// The direct run: each error is applied to every row at its place.
+pub fn direct_run(book: &[u8], tableau: &mut [u8], results: &mut [u8]) -> Returned {
     let book = match read(book) {
         Ok(book) => book,
-        Err(told) => return told,
+        Err(returned) => return returned,
     };
     let (d, n) = (book.d, book.n);
     if tableau.len() < tableau_len(n) || results.len() < 2 * book.measurements() {
@@ -552,7 +552,7 @@ pub fn direct_run(book: &[u8], tableau: &mut [u8], results: &mut [u8]) -> Told {
     let mut done = 0;
     for k in 0..=book.operations.len() {
         for error in book.errors_at(k) {
-            rows.iter_mut().for_each(|row| strike(d, error, row));
+            rows.iter_mut().for_each(|row| apply_error(d, error, row));
         }
         match book.operations.get(k) {
             None => {}

@@ -6,7 +6,7 @@ use cagvost::book::{Book, Operation, WeylError};
 use cagvost::{Refusal, Tray, TrayCounts};
 
 /// A number, its place or how many shots were clean, and how many were shifted.
-pub type Told = (usize, usize, usize);
+pub type Returned = (usize, usize, usize);
 
 /// What a tray run is lent. All but the last is only read.
 #[derive(Clone, Debug, PartialEq, Eq)]
@@ -48,7 +48,7 @@ impl Lent {
     }
 
     /// The same call to the plain reference.
-    pub fn by_plain(&mut self) -> Told {
+    pub fn by_plain(&mut self) -> Returned {
         plain::tray(&self.book, &self.tray, &self.tableau, &mut self.out)
     }
 
@@ -60,7 +60,7 @@ impl Lent {
 }
 
 /// The numbers of a tray run.
-pub fn numbers(run: Result<TrayCounts, Refusal>) -> Told {
+pub fn numbers(run: Result<TrayCounts, Refusal>) -> Returned {
     match run {
         Ok(TrayCounts { clean, shifted }) => (0, clean, shifted),
         Err(refusal) => (refusal.number(), refusal.place(), 0),
@@ -70,12 +70,12 @@ pub fn numbers(run: Result<TrayCounts, Refusal>) -> Told {
 /// A tray run by the library and by the plain reference, which must agree in each number and byte.
 /// Nothing but `out` may change, and by a refusal not even this. Of each shot the bytes must be those
 /// of a separate frame run.
-pub fn tray_both(before: &Lent) -> (Told, Vec<u8>) {
+pub fn tray_both(before: &Lent) -> (Returned, Vec<u8>) {
     let (mut left, mut expected) = (before.clone(), before.clone());
     let run = left.by_library();
-    let told = numbers(run);
+    let returned = numbers(run);
     let named = || before.named();
-    assert_eq!(told, expected.by_plain(), "numbers of {}", named());
+    assert_eq!(returned, expected.by_plain(), "numbers of {}", named());
     assert!(left.out == expected.out, "bytes of {}", named());
     left.out.clone_from(&before.out);
     assert!(left == *before, "a buffer was written by {}", named());
@@ -83,13 +83,13 @@ pub fn tray_both(before: &Lent) -> (Told, Vec<u8>) {
         Ok(_) => one_by_one(before, &expected.out),
         Err(refusal) => {
             let kept = expected.out == before.out;
-            assert!(kept, "{told:?} changed the shots of {}", named());
+            assert!(kept, "{returned:?} changed the shots of {}", named());
             let in_tray = matches!(refusal, Refusal::TrayShot { .. });
             let good_book = plain::read(&before.book).is_ok();
-            assert_eq!(in_tray, told.0 == 6 && good_book, "{}", named());
+            assert_eq!(in_tray, returned.0 == 6 && good_book, "{}", named());
         }
     }
-    (told, expected.out)
+    (returned, expected.out)
 }
 
 /// Compares an accepted tray's bytes with separate frame runs of written books, and what comes after

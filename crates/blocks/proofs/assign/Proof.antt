@@ -34,14 +34,14 @@ word-requires : tie.Need-word-requires Inv-loop μ-loop
 word-requires c κs = omega (arith, c .before .before .before .pre .2 .table)
 
 sub-left : tie.Need-sub-left Inv-loop μ-loop
-sub-left c = omega (arith, c .word .ensures .0, c .before .before .before .before .pre .4)
+sub-left c = omega (arith, c .word .ensures .0, c .before .before .before .before .pre .3)
 
 loop-holds : tie.Need-loop-holds Inv-loop μ-loop
 unfolding noisyAmong
 loop-holds c =
     let o = c .before .before .before .before in
     let q : o .args .first + 0 ≡ o .args .first = omega arith in
-    (omega arith, omega arith, refl, rw q (o .pre .5), assigned-none _ _ (o .pre .0) (o .pre .1))
+    (omega arith, omega arith, refl, rw q (o .pre .4), assigned-none _ _ (o .pre .0) (o .pre .1))
 
 add-word : tie.Need-add-word Inv-loop μ-loop
 add-word c = search needs
@@ -53,7 +53,7 @@ add-word-2 : tie.Need-add-word-2 Inv-loop μ-loop
 add-word-2 c = search needs
 
 word-requires-2 : tie.Need-word-requires-2 Inv-loop μ-loop
-word-requires-2 c κs = omega (arith, c .before .before .before .before .before .before .pre .2 .table, c .before .before .before .before .before .before .pre .4, c .before .before .word .ensures .0, taken-both (c .before .loop .k) (c .before .before .word .result - c .before .before .before .before .before .before .args .first) (c .before .loop .noisy) 256 (c .loop-test .taken))
+word-requires-2 c κs = omega (arith, c .before .before .before .before .before .before .pre .2 .table, c .before .before .before .before .before .before .pre .3, c .before .before .word .ensures .0, taken-both (c .before .loop .k) (c .before .before .word .result - c .before .before .before .before .before .before .args .first) (c .before .loop .noisy) 256 (c .loop-test .taken))
 
 mul-starts : tie.Need-mul-starts Inv-loop μ-loop
 mul-starts c = search needs
@@ -77,7 +77,7 @@ add-at : tie.Need-add-at Inv-loop μ-loop
 add-at c =
     let o = c .before .before .before .before .before .before .before .before in
     let a = c .before .before .before .loop in
-    let low : o .args .first + a .k < shotsIn (now (o .args .tray)) = omega (arith, c .before .before .before .before .word .ensures .0, o .pre .4, taken-both (c .before .before .before .loop .k) (c .before .before .before .before .word .result - c .before .before .before .before .before .before .before .before .args .first) (c .before .before .before .loop .noisy) 256 (c .before .before .loop-test .taken)) in
+    let low : o .args .first + a .k < shotsIn (now (o .args .tray)) = omega (arith, c .before .before .before .before .word .ensures .0, o .pre .3, taken-both (c .before .before .before .loop .k) (c .before .before .before .before .word .result - c .before .before .before .before .before .before .before .before .args .first) (c .before .before .before .loop .noisy) 256 (c .before .before .loop-test .taken)) in
     omega (arith, o .pre .2 .inside (o .args .first + a .k) low, a .inv .3, c .before .word2 .ensures .0)
 
 add-k : tie.Need-add-k Inv-loop μ-loop
@@ -91,7 +91,7 @@ unfolding startOf
 loop-again c =
     let o = c .before .before .before .before .before .before .before .before in
     let a = c .before .before .before .loop in
-    let low : o .args .first + a .k < shotsIn (now (o .args .tray)) = omega (arith, c .before .before .before .before .word .ensures .0, o .pre .4, taken-both (c .before .before .before .loop .k) (c .before .before .before .before .word .result - c .before .before .before .before .before .before .before .before .args .first) (c .before .before .before .loop .noisy) 256 (c .before .before .loop-test .taken)) in
+    let low : o .args .first + a .k < shotsIn (now (o .args .tray)) = omega (arith, c .before .before .before .before .word .ensures .0, o .pre .3, taken-both (c .before .before .before .loop .k) (c .before .before .before .before .word .result - c .before .before .before .before .before .before .before .before .args .first) (c .before .before .before .loop .noisy) 256 (c .before .before .loop-test .taken)) in
     let q : o .args .first + (a .k + 1) ≡ suc (o .args .first + a .k) = omega arith in (
       omega (arith, taken-both (c .before .before .before .loop .k) (c .before .before .before .before .word .result - c .before .before .before .before .before .before .before .before .args .first) (c .before .before .before .loop .noisy) 256 (c .before .before .loop-test .taken)),
       omega (arith, taken-both (c .before .before .before .loop .k) (c .before .before .before .before .word .result - c .before .before .before .before .before .before .before .before .args .first) (c .before .before .before .loop .noisy) 256 (c .before .before .loop-test .taken), c .one-if .ensures .1),
@@ -110,8 +110,12 @@ returns : tie.Need-returns Inv-loop μ-loop
 returns c =
     let o = c .before .before .before .before .before .before in
     let a = c .before .loop in
-    let some : 0 < a .k = started (now (o .args .tray)) (o .args .first) (a .k) _ (a .noisy) (a .inv .2) (omega (arith, c .before .before .word .ensures .0, o .pre .4)) (c .loop-test .left) in
-    (a .inv .4, some, omega (arith, a .inv .0, c .before .before .word .ensures .0, o .pre .4), a .inv .2, a .inv .1, a .inv .3)
+    let some : 0 < a .k = started (now (o .args .tray)) (o .args .first) (a .k) _ (a .noisy) (a .inv .2) (omega (arith, c .before .before .word .ensures .0, o .pre .3)) (c .loop-test .left) in (
+      a .inv .4,
+      some,
+      record { inside = omega (arith, a .inv .0, c .before .before .word .ensures .0, o .pre .3); noisy-count = a .inv .2; lanes = a .inv .1 },
+      a .inv .3,
+    )
 
 pub assign-spec : {M : Type 1} → statement M
 assign-spec =

@@ -7,9 +7,9 @@ use Prim.Native.Nat.{ℕ, _-_, _+_, _*_, _≤_}
 use native.Mathlib.Nat.{le-antisymm, mul-le-mul-right}
 use denote.Ref.{now}
 use Rattle.book.specs.Decoded.{operationsOf}
+use Rattle.runs.specs.Direct.{stateOf}
 use Rattle.tray.specs.Tray.{startOf}
-use Rattle.lane_shots.specs.LaneShots.{shiftedBy}
-use Rattle.blocks.specs.Blocks.{shotErrors, Filled}
+use Rattle.blocks.specs.Blocks.{shotErrors, TrayFilled, shiftedInTray}
 use Rattle.blocks.proofs.Filling.{filled-none, filled-more, shifted-none, shifted-few}
 use Rattle.blocks.proofs.fill.Statement.{statement}
 use Rattle.blocks.proofs.fill.Tie as tie
@@ -18,8 +18,8 @@ abbrev Inv-loop : tie.InvT-loop
 Inv-loop out₀ tray ops clean t w d n shots start₀ shifted₀ first₀ out start shifted first =
     (first ≤ shots)
     × (start ≡ startOf tray first)
-    × (shifted ≡ shiftedBy d n (operationsOf d n ops) (record { rows = t; results = clean }) (shotErrors tray) first)
-    × Filled d n (operationsOf d n ops) (record { rows = t; results = clean }) (shotErrors tray) w 0 first out₀ out
+    × (shifted ≡ shiftedInTray d n ops clean t tray first)
+    × TrayFilled d n ops clean t tray w 0 first out₀ out
 
 abbrev μ-loop : tie.MeasureT-loop
 μ-loop out₀ tray ops clean t w d n shots start₀ shifted₀ first₀ out start shifted first = shots - first
@@ -52,9 +52,9 @@ add-shifted c =
       arith,
       a .inv .2,
       e .4,
-      shifted-few (o .args .d) (o .args .n) (operationsOf (o .args .d) (o .args .n) (now (o .args .ops))) (record { rows = now (o .args .t); results = now (o .args .clean) }) (shotErrors (now (o .args .tray))) (o .args .w) (c .before .before .before .fill-block .result .next),
+      shifted-few (o .args .d) (o .args .n) (operationsOf (o .args .d) (o .args .n) (now (o .args .ops))) (stateOf (now (o .args .t)) (now (o .args .clean))) (shotErrors (now (o .args .tray))) (o .args .w) (c .before .before .before .fill-block .result .next),
       e .2,
-      o .pre .0 .shots,
+      o .pre .0 .lies .shots,
     )
 
 loop-less : tie.Need-loop-less Inv-loop μ-loop

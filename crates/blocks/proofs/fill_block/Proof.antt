@@ -21,30 +21,30 @@ slice-aggregate-assign-2 : tie.Need-slice-aggregate-assign-2
 slice-aggregate-assign-2 c = search needs
 
 assign-requires : tie.Need-assign-requires
-assign-requires c κs = let o = c .before .before .before .before .before .before .before in (refl, refl, o .pre .0 .lies, o .pre .0 .shots, o .pre .2, o .pre .3)
+assign-requires c κs = let o = c .before .before .before .before .before .before .before in (refl, refl, o .pre .0 .lies, o .pre .2, o .pre .3)
 
 add-next : tie.Need-add-next
-add-next c = let o = c .before .before .before .before .before .before .before .before .before .before in omega (arith, c .before .before .assign .ensures .2, o .pre .0 .shots)
+add-next c = let o = c .before .before .before .before .before .before .before .before .before .before in omega (arith, c .before .before .assign .ensures .2 .inside, o .pre .0 .lies .shots)
 
 mul-s : tie.Need-mul-s
 mul-s c =
     let o = c .before .before .before .before .before .before .before .before .before .before in
     let a = c .before .before .assign .ensures in
-    let r = block-inside (o .args .first) (c .before .before .assign .result .count) (shotsIn (now (o .args .tray))) (o .args .w) (length (now (o .args .out))) (a .2) (o .pre .4) in
+    let r = block-inside (o .args .first) (c .before .before .assign .result .count) (shotsIn (now (o .args .tray))) (o .args .w) (length (now (o .args .out))) (a .2 .inside) (o .pre .4) in
     omega (arith, r)
 
 mul-e : tie.Need-mul-e
 mul-e c =
     let o = c .before .before .before .before .before .before .before .before .before .before in
     let a = c .before .before .assign .ensures in
-    let r = block-inside (o .args .first) (c .before .before .assign .result .count) (shotsIn (now (o .args .tray))) (o .args .w) (length (now (o .args .out))) (a .2) (o .pre .4) in
+    let r = block-inside (o .args .first) (c .before .before .assign .result .count) (shotsIn (now (o .args .tray))) (o .args .w) (length (now (o .args .out))) (a .2 .inside) (o .pre .4) in
     omega (arith, r)
 
 add-e : tie.Need-add-e
 add-e c =
     let o = c .before .before .before .before .before .before .before .before .before .before in
     let a = c .before .before .assign .ensures in
-    let r = block-inside (o .args .first) (c .before .before .assign .result .count) (shotsIn (now (o .args .tray))) (o .args .w) (length (now (o .args .out))) (a .2) (o .pre .4) in
+    let r = block-inside (o .args .first) (c .before .before .assign .result .count) (shotsIn (now (o .args .tray))) (o .args .w) (length (now (o .args .out))) (a .2 .inside) (o .pre .4) in
     omega (arith, r)
 
 sub-fill-rows : tie.Need-sub-fill-rows
@@ -57,7 +57,7 @@ part-fill-rows-end : tie.Need-part-fill-rows-end
 part-fill-rows-end c =
     let o = c .before .before .before .before .before .before .before .before .before .before in
     let a = c .before .before .assign .ensures in
-    let r = block-inside (o .args .first) (c .before .before .assign .result .count) (shotsIn (now (o .args .tray))) (o .args .w) (length (now (o .args .out))) (a .2) (o .pre .4) in
+    let r = block-inside (o .args .first) (c .before .before .assign .result .count) (shotsIn (now (o .args .tray))) (o .args .w) (length (now (o .args .out))) (a .2 .inside) (o .pre .4) in
     omega (arith, r)
 
 slice-aggregate-fill-rows : tie.Need-slice-aggregate-fill-rows
@@ -71,14 +71,12 @@ unfolding part
 fill-rows-requires c κs =
     let o = c .before .before .before .before .before .before .before .before .before .before .before .before .before in
     let a = c .before .before .before .before .before .assign .ensures in
-    let r = block-inside (o .args .first) (c .before .before .before .before .before .assign .result .count) (shotsIn (now (o .args .tray))) (o .args .w) (length (now (o .args .out))) (a .2) (o .pre .4) in
+    let r = block-inside (o .args .first) (c .before .before .before .before .before .assign .result .count) (shotsIn (now (o .args .tray))) (o .args .w) (length (now (o .args .out))) (a .2 .inside) (o .pre .4) in
     let u = c .before .before .before .before .before .assign .result .count in (
       o .pre .0,
       a .0,
       o .pre .1,
       a .2,
-      a .3,
-      a .4,
       simp add-sub-cancel-left (omega (arith, part-length (o .args .first * o .args .w) (u * o .args .w) (now (o .args .out)) r)),
     )
 
@@ -90,13 +88,13 @@ unfolding part put
 returns c =
     let o = c .before .before .before .before .before .before .before .before .before .before .before .before .before .before .before .before in
     let a = c .before .before .before .before .before .before .before .before .assign .ensures in
-    let r = block-inside (o .args .first) (c .before .before .before .before .before .before .before .before .assign .result .count) (shotsIn (now (o .args .tray))) (o .args .w) (length (now (o .args .out))) (a .2) (o .pre .4) in
+    let r = block-inside (o .args .first) (c .before .before .before .before .before .before .before .before .assign .result .count) (shotsIn (now (o .args .tray))) (o .args .w) (length (now (o .args .out))) (a .2 .inside) (o .pre .4) in
     let u = c .before .before .before .before .before .before .before .before .assign .result .count in
     let e = c .before .before .fill-rows .ensures in (
       simp add-sub-cancel-left (filled-block _ _ _ _ _ (o .args .w) (o .args .first) u (now (o .args .out)) _ r (simp add-sub-cancel-left at (e .0))),
       omega (arith, a .1),
-      a .2,
-      a .5,
+      a .2 .inside,
+      a .3,
       shifted-more _ _ _ _ _ (o .args .w) (o .args .first) u ∙ ap (_+_ _) (sym (e .1)),
     )
 

@@ -7,7 +7,7 @@ use Prim.Native.Nat.{_≤_}
 use native.Mathlib.Nat.{mul-le-mul-right}
 use denote.Ref.{now}
 use Rattle.modular.proofs.Listed.{dimension}
-use Rattle.lane_shots.specs.LaneShots.{shiftedBy}
+use Rattle.lane_shots.specs.LaneShots.{shiftedShots}
 use Rattle.expand.proofs.Noisy.{noisy-most}
 use Rattle.blocks.proofs.Assignment.{block-of}
 use Rattle.blocks.proofs.Rows.{shifted-all, shot-rows}
@@ -18,24 +18,25 @@ fill-requires : tie.Need-fill-requires
 fill-requires c κs =
     let o = c .before .before .before .before .before .before .before .before in
     let f = o .pre .2 in
-    let dim = dimension (o .args .d) (f .setting .dimension) in
-    let few : o .args .noisy ≤ o .args .count = omega (arith, o .pre .4, noisy-most (now (o .args .tray)) (o .args .first) (o .args .count)) in (
-      block-of (o .pre .1) (o .args .d) (o .args .n) (o .pre .0) (dim .high) (f .setting .qudits),
+    let b = o .pre .3 in
+    let few : o .args .noisy ≤ o .args .count = omega (arith, b .noisy-count, noisy-most (now (o .args .tray)) (o .args .first) (o .args .count)) in (
+      block-of (o .pre .1) (o .args .d) (o .args .n) (o .pre .0),
       f,
-      o .pre .5,
-      omega (arith, mul-le-mul-right (o .args .w) few, o .pre .6),
+      record { lanes = b .lanes; narrow = f .narrow; room = omega (arith, mul-le-mul-right (o .args .w) few, o .pre .4) },
     )
 
 expand-requires : tie.Need-expand-requires
 expand-requires c κs =
     let o = c .before .before .before .before .before .before .before .before .before .before .before .before in
     let f = o .pre .2 in (
-      omega (arith, f .width, f .exact),
-      f .narrow,
-      o .pre .3,
-      o .pre .0 .lies .table,
-      omega (arith, o .pre .6, c .before .before .before .fill .ensures .0 .len),
-      o .pre .4,
+      record {
+        width = omega (arith, f .width, f .exact);
+        narrow = f .narrow;
+        shots = o .pre .3 .inside;
+        table = o .pre .0 .lies .table;
+        room = omega (arith, o .pre .4, c .before .before .before .fill .ensures .0 .len);
+      },
+      o .pre .3 .noisy-count,
     )
 
 same-length : tie.Need-same-length
@@ -45,11 +46,11 @@ returns : tie.Need-returns
 returns c =
     let o = c .before .before .before .before .before .before .before .before .before .before .before .before .before .before .before in
     let f = o .pre .2 in
-    let dim = dimension (o .args .d) (f .setting .dimension) in
+    let dim = dimension (o .args .d) (f .circuit .dimension) in
     let e = c .before .before .before .before .before .before .fill .ensures in
-    let q = o .pre .4 in (
-      shot-rows _ _ dim _ (f .setting .operations) _ _ _ _ _ _ (o .pre .1) (f .exact) (f .setting .below) _ _ _ _ (rw q at (e .0)) (c .before .before .expand .ensures),
-      e .1 ∙ ap (shiftedBy _ _ _ _ _) q ∙ shifted-all _ _ dim _ (f .setting .operations) _ _ _ _ _ _ (o .pre .1),
+    let q = o .pre .3 .noisy-count in (
+      shot-rows _ _ dim _ (f .circuit .operations) _ _ _ _ _ _ (o .pre .1) (f .exact) (f .circuit .below) _ _ _ _ (rw q at (e .0)) (c .before .before .expand .ensures),
+      e .1 ∙ ap (shiftedShots _ _ _ _ _) q ∙ shifted-all _ _ dim _ (f .circuit .operations) _ _ _ _ _ _ (o .pre .1),
     )
 
 pub fill-rows-spec : {M : Type 1} → statement M

@@ -5,18 +5,18 @@ use mathlib.Core.Bool.{true}
 use denote.Ref.{now}
 use borrow.Author.Tests.{not-true, not-false, eq-eqb, ne-eqb}
 use borrow.Author.Needs.{needs}
-use Rattle.book.specs.Book.{badContents, entryFits, endOf}
+use Rattle.book.specs.Book.{operationsEntry, errorsEntry, choicesEntry, badContents, entryFits, endOf}
 use Rattle.book.proofs.bad_contents.Statement.{statement}
 use Rattle.book.proofs.bad_contents.Tie as tie
 
 -- past each test its entry fits
-fits-0 : (c : tie.Else1) → let s = now (c .before .before .before .args .book) in entryFits s 4 1 22 4 4096 ≡ true
+fits-0 : (c : tie.Else1) → let s = now (c .before .before .before .args .book) in entryFits s operationsEntry 1 22 4 4096 ≡ true
 fits-0 c = sym (c .before .entry-fits .ensures) ∙ not-false _ (c .if1 .left)
 
-fits-1 : (c : tie.Else2) → let s = now (c .before .before .before .before .before .before .args .book) in entryFits s 10 2 (endOf s 4) 5 2048 ≡ true
+fits-1 : (c : tie.Else2) → let s = now (c .before .before .before .before .before .before .args .book) in entryFits s errorsEntry 2 (endOf s operationsEntry) 5 2048 ≡ true
 fits-1 c = rw (← c .before .before .end-of .ensures .0) (sym (c .before .entry-fits2 .ensures) ∙ not-false _ (c .if2 .left))
 
-fits-2 : (c : tie.Else3) → let s = now (c .before .before .before .before .before .before .before .before .before .args .book) in entryFits s 16 3 (endOf s 10) 1 4096 ≡ true
+fits-2 : (c : tie.Else3) → let s = now (c .before .before .before .before .before .before .before .before .before .args .book) in entryFits s choicesEntry 3 (endOf s errorsEntry) 1 4096 ≡ true
 fits-2 c = rw (← c .before .before .end-of2 .ensures .0) (sym (c .before .entry-fits3 .ensures) ∙ not-false _ (c .if3 .left))
 
 entry-fits-requires : tie.Need-entry-fits-requires

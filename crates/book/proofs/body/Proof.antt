@@ -3,23 +3,22 @@
 use mathlib.Core.Path.{_≡_, sym, ap, _∙_}
 use mathlib.Core.List.{List}
 use Prim.Native.Nat.{ℕ}
-use native.Mathlib.Omega.{arith}
 use denote.Ref.{now}
 use borrow.Author.Tests.{ne-eqb}
 use borrow.Author.Needs.{needs}
-use Rattle.body.specs.declared.Reading.the-variants.{Accepted}
-use Rattle.body.specs.Body.{told}
-use Rattle.body.proofs.Sound.{no-refusal}
+use Rattle.book_body.specs.declared.Reading.the-variants.{Accepted}
+use Rattle.book_body.specs.Body.{answerOf}
+use Rattle.book_body.proofs.Sound.{no-refusal}
 use Rattle.book.specs.Book.{readBook, ofKind, bodyOf}
 use Rattle.book.proofs.Contents.{Passed, all-passed, Inside, inside, by-kind}
 use Rattle.book.proofs.body.Statement.{statement}
 use Rattle.book.proofs.body.Tie as tie
 
 -- past the reading the book is accepted
-taken : (c : tie.After-enum-told) → readBook (now (c .before .before .before .before .args .book)) ≡ told (Accepted (c .enum-told .given .0 .0))
-taken c = sym (c .before .before .read .ensures) ∙ ap told (c .enum-told .given .1)
+taken : (c : tie.After-enum-told) → readBook (now (c .before .before .before .before .args .book)) ≡ answerOf (Accepted (c .enum-told .given .0 .0))
+taken c = sym (c .before .before .read .ensures) ∙ ap answerOf (c .enum-told .given .1)
 
-passed : (c : tie.After-enum-told) → Passed (now (c .before .before .before .before .args .book)) (told (Accepted (c .enum-told .given .0 .0)))
+passed : (c : tie.After-enum-told) → Passed (now (c .before .before .before .before .args .book)) (answerOf (Accepted (c .enum-told .given .0 .0)))
 passed c = all-passed _ (no-refusal _ _ _ _ _) (taken c)
 
 lies : (c : tie.After-enum-told) → Inside (now (c .before .before .before .before .args .book))
@@ -46,26 +45,26 @@ returns : tie.Need-returns
 unfolding bodyOf
 returns c = rw (← c .before .before .before .read .ensures, c .before .enum-told2 .given .1)
 
-part-of-requires : tie.Need-part-of-requires
-part-of-requires c κs = (omega arith, lies (c .before) .room, lies (c .before) .first)
+operations-requires : tie.Need-operations-requires
+operations-requires c κs = (lies (c .before) .room, lies (c .before) .first)
 
-part-of-requires-2 : tie.Need-part-of-requires-2
-part-of-requires-2 c κs = (omega arith, lies (c .before) .room, lies (c .before) .second)
+errors-requires : tie.Need-errors-requires
+errors-requires c κs = (lies (c .before) .room, lies (c .before) .second)
 
-part-of-requires-3 : tie.Need-part-of-requires-3
-part-of-requires-3 c κs = (omega arith, lies (c .before) .room, lies (c .before) .third)
+choices-requires : tie.Need-choices-requires
+choices-requires c κs = (lies (c .before) .room, lies (c .before) .third)
 
 slice-aggregate-result-2 : tie.Need-slice-aggregate-result-2
 slice-aggregate-result-2 c = search needs
 
 returns-2 : tie.Need-returns-2
-returns-2 c = fetched (c .before .before) (c .before .match2 .keys1) (c .part-of .ensures)
+returns-2 c = fetched (c .before .before) (c .before .match2 .keys1) (c .operations .ensures)
 
 returns-3 : tie.Need-returns-3
-returns-3 c = fetched (c .before .before) (c .before .match2 .keys2) (c .part-of2 .ensures)
+returns-3 c = fetched (c .before .before) (c .before .match2 .keys2) (c .errors .ensures)
 
 returns-4 : tie.Need-returns-4
-returns-4 c = fetched (c .before .before) (c .before .match2 .keys3) (c .part-of3 .ensures)
+returns-4 c = fetched (c .before .before) (c .before .match2 .keys3) (c .choices .ensures)
 
 returns-5 : tie.Need-returns-5
 returns-5 c =
@@ -81,9 +80,9 @@ body-spec =
     enum-told-2
     slice-aggregate-result
     returns
-    part-of-requires
-    part-of-requires-2
-    part-of-requires-3
+    operations-requires
+    errors-requires
+    choices-requires
     slice-aggregate-result-2
     returns-2
     returns-3

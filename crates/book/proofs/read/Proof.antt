@@ -11,28 +11,28 @@ use borrow.Author.Needs.{needs}
 use Rattle.modular.specs.Dimension.{listed}
 use Rattle.tableau.specs.Tableau.{sized}
 use Rattle.search.specs.declared.Place.the-variants.{Nowhere}
-use Rattle.body.specs.Body.{at, readBodies}
-use Rattle.book.specs.Book.{headed, dimensionOf, quditsOf, partOf, badContents, readBook}
+use Rattle.book_body.specs.Body.{refuseAt, readBodies}
+use Rattle.book.specs.Book.{headerFits, dimensionOf, quditsOf, operationsEntry, errorsEntry, choicesEntry, partOf, badContents, readBook}
 use Rattle.book.proofs.Contents.{head-room, Inside, inside}
 use Rattle.book.proofs.read.Statement.{statement}
 use Rattle.book.proofs.read.Tie as tie
 
 -- past each test, what it says of the book
-head : (c : tie.Else1) → headed (now (c .before .before .before .args .book)) ≡ true
-head c = sym (c .before .is-headed .ensures) ∙ not-false _ (c .if1 .left)
+head : (c : tie.Else1) → headerFits (now (c .before .before .before .args .book)) ≡ true
+head c = sym (c .before .header-fits .ensures) ∙ not-false _ (c .if1 .left)
 
 dimension : (c : tie.After-is-listed) → let s = now (c .before .before .before .before .before .before .before .before .args .book) in c .is-listed .result ≡ listed (dimensionOf s)
-dimension c = c .is-listed .ensures ∙ ap listed (c .before .wide2 .ensures .0)
+dimension c = c .is-listed .ensures ∙ ap listed (c .before .byte-as-usize2 .ensures .0)
 
 qudits : (c : tie.After-is-sized) → let s = now (c .before .before .before .before .before .before .before .before .before .before .args .book) in c .is-sized .result ≡ sized (quditsOf s)
-qudits c = c .is-sized .ensures ∙ ap sized (c .before .before .before .before .wide .ensures .0)
+qudits c = c .is-sized .ensures ∙ ap sized (c .before .before .before .before .byte-as-usize .ensures .0)
 
 room : (c : tie.Else1) → 22 ≤ length (now (c .before .before .before .args .book))
 room c = head-room _ (head c)
 
 -- past the header the rest decides
 rest : (c : tie.Else3) → let s = now (c .before .before .before .before .before .before .before .before .before .before .before .args .book) in
-    readBook s ≡ at 4 (badContents s) (readBodies (dimensionOf s) (quditsOf s) (partOf s 4) (partOf s 10) (partOf s 16))
+    readBook s ≡ refuseAt 4 (badContents s) (readBodies (dimensionOf s) (quditsOf s) (partOf s operationsEntry) (partOf s errorsEntry) (partOf s choicesEntry))
 unfolding readBook
 rest c =
     rw (
@@ -48,24 +48,24 @@ contents c = sym (c .before .before .bad-contents .ensures) ∙ c .enum-told .gi
 lies : (c : tie.After-enum-told) → let s = now (c .before .before .before .before .before .before .before .before .before .before .before .before .before .before .args .book) in Inside s
 lies c = inside _ (head (c .before .before .before .before .before .before .before .before .before .before .before)) (contents c)
 
-is-headed-requires : tie.Need-is-headed-requires
-is-headed-requires c κs = search needs
+header-fits-requires : tie.Need-header-fits-requires
+header-fits-requires c κs = search needs
 
 returns : tie.Need-returns
 unfolding readBook
-returns c = rw (sym (c .before .is-headed .ensures) ∙ not-true _ (c .if1 .taken))
+returns c = rw (sym (c .before .header-fits .ensures) ∙ not-true _ (c .if1 .taken))
 
 shared-slice-read-d : tie.Need-shared-slice-read-d
 shared-slice-read-d c = omega (arith, room (c .before))
 
-shared-slice-read-wide : tie.Need-shared-slice-read-wide
-shared-slice-read-wide c = omega (arith, room (c .before .before))
+shared-slice-read-byte-as-usize : tie.Need-shared-slice-read-byte-as-usize
+shared-slice-read-byte-as-usize c = omega (arith, room (c .before .before))
 
-wide-requires : tie.Need-wide-requires
-wide-requires c κs = search needs
+byte-as-usize-requires : tie.Need-byte-as-usize-requires
+byte-as-usize-requires c κs = search needs
 
-wide-requires-2 : tie.Need-wide-requires-2
-wide-requires-2 c κs = search needs
+byte-as-usize-requires-2 : tie.Need-byte-as-usize-requires-2
+byte-as-usize-requires-2 c κs = search needs
 
 is-listed-requires : tie.Need-is-listed-requires
 is-listed-requires c κs = search needs
@@ -98,14 +98,14 @@ returns-4 c = rw (rest (c .before .before .before .before), ← c .before .befor
 enum-told : tie.Need-enum-told
 enum-told c = search needs
 
-part-of-requires : tie.Need-part-of-requires
-part-of-requires c κs = (omega arith, lies c .room, lies c .first)
+operations-requires : tie.Need-operations-requires
+operations-requires c κs = (lies c .room, lies c .first)
 
-part-of-requires-2 : tie.Need-part-of-requires-2
-part-of-requires-2 c κs = (omega arith, lies (c .before) .room, lies (c .before) .second)
+errors-requires : tie.Need-errors-requires
+errors-requires c κs = (lies (c .before) .room, lies (c .before) .second)
 
-part-of-requires-3 : tie.Need-part-of-requires-3
-part-of-requires-3 c κs = (omega arith, lies (c .before .before) .room, lies (c .before .before) .third)
+choices-requires : tie.Need-choices-requires
+choices-requires c κs = (lies (c .before .before) .room, lies (c .before .before) .third)
 
 read-bodies-requires : tie.Need-read-bodies-requires
 read-bodies-requires c κs = search needs
@@ -115,10 +115,10 @@ returns-5 c =
     rw (
       rest (c .before .before .before .before .before .before .before),
       contents (c .before .before .before .before),
-      ← c .before .before .before .part-of .ensures,
-      ← c .before .before .part-of2 .ensures,
-      ← c .before .part-of3 .ensures,
-      ← c .before .before .before .before .before .before .before .before .before .before .before .before .wide .ensures .0,
+      ← c .before .before .before .operations .ensures,
+      ← c .before .before .errors .ensures,
+      ← c .before .choices .ensures,
+      ← c .before .before .before .before .before .before .before .before .before .before .before .before .byte-as-usize .ensures .0,
     )
     (c .read-bodies .ensures)
 
@@ -126,12 +126,12 @@ pub read-spec : {M : Type 1} → statement M
 read-spec =
     tie.close
     (tie.spec
-    is-headed-requires
+    header-fits-requires
     returns
     shared-slice-read-d
-    shared-slice-read-wide
-    wide-requires
-    wide-requires-2
+    shared-slice-read-byte-as-usize
+    byte-as-usize-requires
+    byte-as-usize-requires-2
     is-listed-requires
     returns-2
     is-sized-requires
@@ -140,8 +140,8 @@ read-spec =
     enum-known-place
     returns-4
     enum-told
-    part-of-requires
-    part-of-requires-2
-    part-of-requires-3
+    operations-requires
+    errors-requires
+    choices-requires
     read-bodies-requires
     returns-5)

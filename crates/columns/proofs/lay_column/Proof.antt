@@ -17,28 +17,31 @@ abbrev μ-loop : tie.MeasureT-loop
 μ-loop columns₀ t s n w at j₀ j-end columns j = 2 * n - j
 
 inside : (c : tie.In-loop Inv-loop μ-loop) → let s = c .before .before .before .before in c .before .loop .j * (2 * s .args .n + 1) + s .args .s < 2 * s .args .n * (2 * s .args .n + 1)
-inside c = let s = c .before .before .before .before in omega (arith, row-in (c .before .loop .j) (2 * s .args .n) (2 * s .args .n + 1) (c .loop-test .taken), s .pre .1)
+inside c = let s = c .before .before .before .before in omega (arith, row-in (c .before .loop .j) (2 * s .args .n) (2 * s .args .n + 1) (c .loop-test .taken), s .pre .0)
 
 loop-holds : tie.Need-loop-holds Inv-loop μ-loop
-loop-holds c = let s = c .before .before in let e : 128 * s .args .s + 0 ≡ 128 * s .args .s = omega arith in (omega arith, rw e (s .pre .3))
+loop-holds c = let s = c .before .before in let e : 128 * s .args .s + 0 ≡ 128 * s .args .s = omega arith in (omega arith, rw e (s .pre .2))
 
-mul-wide : tie.Need-mul-wide Inv-loop μ-loop
-mul-wide c = omega (arith, inside c)
+mul-byte-as-u16 : tie.Need-mul-byte-as-u16 Inv-loop μ-loop
+mul-byte-as-u16 c = omega (arith, inside c)
 
-add-wide : tie.Need-add-wide Inv-loop μ-loop
-add-wide c = omega (arith, inside c)
+add-byte-as-u16 : tie.Need-add-byte-as-u16 Inv-loop μ-loop
+add-byte-as-u16 c = omega (arith, inside c)
 
-shared-slice-read-wide : tie.Need-shared-slice-read-wide Inv-loop μ-loop
-shared-slice-read-wide c = omega (arith, inside (c .before), c .before .before .before .before .before .pre .2 .room)
+shared-slice-read-byte-as-u16 : tie.Need-shared-slice-read-byte-as-u16 Inv-loop μ-loop
+shared-slice-read-byte-as-u16 c = omega (arith, inside (c .before), c .before .before .before .before .before .pre .1 .tableau .room)
 
 slice-write-columns : tie.Need-slice-write-columns Inv-loop μ-loop
 slice-write-columns c = omega (arith, c .before .before .before .loop .inv .1 .len)
 
 loop-again : tie.Need-loop-again Inv-loop μ-loop
-loop-again c = let s = c .before .before .before .before .before .before in (omega arith, laid-more _ _ _ _ _ _ (omega arith) (omega arith) (omega arith) (c .before .before .before .loop .inv .1) (c .wide .ensures) (omega (arith, c .wide .ensures, s .pre .2 .below _ (inside (c .before .before)))))
+loop-again c =
+    let s = c .before .before .before .before .before .before in
+    let size = s .pre .1 .size in
+    (omega arith, laid-more _ _ _ _ _ _ (omega arith) (omega arith) (omega arith) (c .before .before .before .loop .inv .1) (c .byte-as-u16 .ensures) (omega (arith, c .byte-as-u16 .ensures, s .pre .1 .tableau .below _ (inside (c .before .before)))))
 
 same-length : tie.Need-same-length Inv-loop μ-loop
-same-length c = c .before .loop .inv .1 .len ∙ sym (c .before .before .before .before .pre .3 .len)
+same-length c = c .before .loop .inv .1 .len ∙ sym (c .before .before .before .before .pre .2 .len)
 
 returns : tie.Need-returns Inv-loop μ-loop
 returns c = let e : c .before .loop .j ≡ 2 * c .before .before .before .before .args .n = omega arith in laid-column _ _ _ _ (rw e at (c .before .loop .inv .1))
@@ -54,9 +57,9 @@ lay-column-spec =
     (λ c. search needs)
     (λ c. search needs)
     loop-holds
-    mul-wide
-    add-wide
-    shared-slice-read-wide
+    mul-byte-as-u16
+    add-byte-as-u16
+    shared-slice-read-byte-as-u16
     (λ c κs. search needs)
     (λ c. search needs)
     (λ c. search needs)

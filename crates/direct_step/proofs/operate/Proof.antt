@@ -16,7 +16,7 @@ returns : tie.Need-returns
 returns c =
     let p = c .before .before in
     let s = p .before .before .before .before .before .before in
-    absurd (step-refused (s .args .d) (s .args .n) (now (s .args .ops)) (s .args .k) (s .pre .0) (s .pre .3) (p .step-at .ensures) (c .enum-told .given .1))
+    absurd (step-refused (s .args .d) (s .args .n) (now (s .args .ops)) (s .args .k) (s .pre .0) (s .pre .2) (p .step-at .ensures) (c .enum-told .given .1))
 
 perform-requires : tie.Need-perform-requires
 perform-requires c κs =
@@ -24,7 +24,7 @@ perform-requires c κs =
     let p = m .before .before in
     let s = p .before .before .before .before .before .before in
     let o = step-taken (s .args .d) (s .args .n) (now (s .args .ops)) (s .args .k) (s .pre .0) (p .step-at .ensures) (m .step .given .1) in
-    (s .pre .1, s .pre .2, rw (← o) (s .pre .3), omega (arith, s .pre .4, ap tally o), s .pre .5, s .pre .6, s .pre .7, s .pre .8)
+    (s .pre .1, rw (← o) (s .pre .2), rw (← o) (s .pre .3), s .pre .4)
 
 add-result : tie.Need-add-result
 add-result c =
@@ -32,7 +32,7 @@ add-result c =
     let p = m .before .before in
     let s = p .before .before .before .before .before .before in
     let o = step-taken (s .args .d) (s .args .n) (now (s .args .ops)) (s .args .k) (s .pre .0) (p .step-at .ensures) (m .step .given .1) in
-    omega (arith, c .tally .ensures .0, s .pre .4, ap tally o)
+    omega (arith, c .tally .ensures .0, s .pre .3 .enough, ap tally o)
 
 returns-2 : tie.Need-returns-2
 returns-2 c =

@@ -17,7 +17,8 @@ add-blocks-requires c κs =
     let s = c .before .before .before .before .before .before .before .before in
     let p = s .pre in
     let e = c .before .before .before .widen .ensures in
-    (p .0, omega arith, p .1, ap length e ∙ filled-length _ (replicate 64 0) _ (p .2), copied-small _ _ (p .3) (copied (s .args .powers .now) 64 e), p .4, p .5, sums-none _ _ _ _ (p .6))
+    let len = ap length e ∙ filled-length _ (replicate 64 0) _ (p .0) in
+    (omega arith, record { len = len; small = copied-small _ _ (p .1) (copied (s .args .powers .now) 64 e) }, p .2, sums-none _ _ _ _ (p .3))
 
 returns : tie.Need-returns
 returns c =

@@ -14,7 +14,7 @@ use denote.Ref.{now}
 use Rattle.tableau.specs.Tableau.{part, put}
 use Rattle.tableau.proofs.Parts.{row-in}
 use Rattle.tray.specs.Tray.{lengthAt}
-use Rattle.expand.specs.Expand.{noisyAmong, rowOf}
+use Rattle.expand.specs.Expand.{noisyAmong, shotRowOf}
 use Rattle.expand.proofs.Noisy.{noisy-none, noisy-one}
 use Rattle.expand.proofs.Places.{row-clean, row-noisy}
 use borrow.Author.Needs.{needs}
@@ -33,11 +33,11 @@ module _ (tray : List ℕ) (first i noisy x : ℕ) (among : noisy ≡ noisyAmong
   one-more e = among ∙ rw (add-one i) (noisy-one tray first i (λ z. e (size ∙ z)))
 
   module _ (clean : List ℕ) (w : ℕ) (out : List ℕ) where
-    put-clean : (ys : List ℕ) → x ≡ 0 → ys ≡ 0 ∷ clean → put (i * w) w ys out ≡ put (i * w) w (rowOf tray first clean w out i) out
+    put-clean : (ys : List ℕ) → x ≡ 0 → ys ≡ 0 ∷ clean → put (i * w) w ys out ≡ put (i * w) w (shotRowOf tray first clean w out i) out
     put-clean ys e q = ap (λ (zs : List ℕ). put (i * w) w zs out) (q ∙ sym (row-clean tray first clean w out i (sym size ∙ e)))
 
     put-noisy : (u : List ℕ) (k : ℕ) → x ≢ 0 → k ≡ noisyAmong tray first i → u ≡ put (i * w) w (part (k * w) w out) out
-        → u ≡ put (i * w) w (rowOf tray first clean w out i) out
+        → u ≡ put (i * w) w (shotRowOf tray first clean w out i) out
     put-noisy u k e q p =
         p
         ∙ ap (λ (zs : List ℕ). put (i * w) w zs out)
@@ -83,9 +83,9 @@ returns c =
     let a = s .args in
     let d = c .before .before .before .before .before .word .ensures .0 in
     let e = c .before .before .before .before .if1 .taken in (
-      none-more (now (a .tray)) (a .first) (a .i) (a .noisy) _ (s .pre .5) d e,
+      none-more (now (a .tray)) (a .first) (a .i) (a .noisy) _ (s .pre .1) d e,
       simp add-sub-cancel-left
-          (put-clean (now (a .tray)) (a .first) (a .i) (a .noisy) _ (s .pre .5) d (now (a .clean)) (a .w) (now (a .out)) _ e
+          (put-clean (now (a .tray)) (a .first) (a .i) (a .noisy) _ (s .pre .1) d (now (a .clean)) (a .w) (now (a .out)) _ e
           (c .before .before .clean-row .ensures)),
     )
 
@@ -93,7 +93,7 @@ sub-before : tie.Need-sub-before
 sub-before c =
     let s = c .before .before .before .before .before in
     let a = s .args in
-    omega (arith, one-more (now (a .tray)) (a .first) (a .i) (a .noisy) _ (s .pre .5) (c .before .word .ensures .0) (c .if1 .left))
+    omega (arith, one-more (now (a .tray)) (a .first) (a .i) (a .noisy) _ (s .pre .1) (c .before .word .ensures .0) (c .if1 .left))
 
 mul-move-row : tie.Need-mul-move-row
 mul-move-row c = let a = c .before .before .before .before .before .before .args in early-fits _ (a .i) (a .w) (omega arith) (omega arith)
@@ -102,8 +102,8 @@ move-row-requires : tie.Need-move-row-requires
 move-row-requires c κs =
     let s = c .before .before .before .before .before .before in
     let a = s .args in
-    let more = one-more (now (a .tray)) (a .first) (a .i) (a .noisy) _ (s .pre .5) (c .before .before .word .ensures .0) (c .before .if1 .left) in
-    (row-in _ (a .i) (a .w) (omega (arith, more)), s .pre .4)
+    let more = one-more (now (a .tray)) (a .first) (a .i) (a .noisy) _ (s .pre .1) (c .before .before .word .ensures .0) (c .before .if1 .left) in
+    (row-in _ (a .i) (a .w) (omega (arith, more)), omega (arith, s .pre .0 .room))
 
 same-length-2 : tie.Need-same-length-2
 same-length-2 c = search needs
@@ -114,10 +114,10 @@ returns-2 c =
     let a = s .args in
     let d = c .before .before .before .before .before .word .ensures .0 in
     let e = c .before .before .before .before .if1 .left in
-    let more = one-more (now (a .tray)) (a .first) (a .i) (a .noisy) _ (s .pre .5) d e in
+    let more = one-more (now (a .tray)) (a .first) (a .i) (a .noisy) _ (s .pre .1) d e in
     let q : a .noisy - 1 ≡ noisyAmong (now (a .tray)) (a .first) (a .i) = omega (arith, more) in (
       q,
-      put-noisy (now (a .tray)) (a .first) (a .i) (a .noisy) _ (s .pre .5) d (now (a .clean)) (a .w) (now (a .out)) _ (a .noisy - 1) e q
+      put-noisy (now (a .tray)) (a .first) (a .i) (a .noisy) _ (s .pre .1) d (now (a .clean)) (a .w) (now (a .out)) _ (a .noisy - 1) e q
           (c .before .before .move-row .ensures),
     )
 

@@ -17,16 +17,17 @@ thrice : (d n q k : ℕ) → allowed d n (Fourier q k) ≡ true → (Unit {0} ×
 thrice d n q k h ((_, x), y) = let (_, low, high) = single-facts 4 n q k h in omega (arith, x, y)
 
 gate-all-requires : tie.Need-gate-all-requires
-gate-all-requires c κs = let p = c .before .before .before .before .pre in (p .0, rw (c .before .match .keys1) at (p .1), λ e. absurd (omega arith), p .2, p .3)
+gate-all-requires c κs = let p = c .before .before .before .before .pre in (p .0, record { allows = rw (c .before .match .keys1) at (p .1); inverts = λ e. absurd (omega arith) }, p .2, p .3)
 
 gate-all-requires-2 : tie.Need-gate-all-requires-2
-gate-all-requires-2 c κs = let p = c .before .before .before .before .pre in (p .0, rw (c .before .match .keys2) at (p .1), λ e. absurd (omega arith), p .2, p .3)
+gate-all-requires-2 c κs = let p = c .before .before .before .before .pre in (p .0, record { allows = rw (c .before .match .keys2) at (p .1); inverts = λ e. absurd (omega arith) }, p .2, p .3)
 
 gate-all-requires-3 : tie.Need-gate-all-requires-3
 gate-all-requires-3 c κs =
     let s = c .before .before .before .before in
     let p = s .pre in
-    (p .0, rw (thrice (s .args .d) (s .args .n) (s .args .q) (s .args .k) (p .1) (c .before .match .rest)) at (p .1), λ e. absurd (omega arith), p .2, p .3)
+    let three = thrice (s .args .d) (s .args .n) (s .args .q) (s .args .k) (p .1) (c .before .match .rest) in
+    (p .0, record { allows = rw three at (p .1); inverts = λ e. absurd (omega arith) }, p .2, p .3)
 
 returns : tie.Need-returns
 returns c = rw (c .before .before .before .before .match .keys1) (c .before .before .gate-all .ensures)

@@ -29,11 +29,10 @@ gate-at-requires c κs =
     let a = s .args in
     let l = c .before .before .loop in
     let k = gate-keeps (a .d) (a .n) (numbered (a .number) (a .x) (a .y) (a .k)) in (
-      turn-room _ _ _ k _ (s .pre .3) (l .i) (omega arith) _ (l .inv .2),
+      turn-room _ _ _ k _ (s .pre .2) (l .i) (omega arith) _ (l .inv .2),
       s .pre .1,
-      s .pre .2,
-      turn-row _ _ _ k _ (s .pre .3) (l .i) (omega arith) _ (l .inv .2),
-      s .pre .4,
+      turn-row _ _ _ k _ (s .pre .2) (l .i) (omega arith) _ (l .inv .2),
+      s .pre .3,
     )
 
 loop-again : tie.Need-loop-again Inv-loop μ-loop

@@ -8,7 +8,7 @@ use Rattle.gate.proofs.gate_at.Tie as tie
 
 gate-row-requires : tie.Need-gate-row-requires
 unfolding part
-gate-row-requires c κs = let p = c .before .before .before .pre in (p .1, p .2, simp add-sub-cancel-left (p .3), p .4)
+gate-row-requires c κs = let p = c .before .before .before .pre in (p .1, simp add-sub-cancel-left (p .2), p .3)
 
 returns : tie.Need-returns
 unfolding part put

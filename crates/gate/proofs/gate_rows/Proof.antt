@@ -15,27 +15,27 @@ fourier-times-requires c κs =
 gate-times-requires : tie.Need-gate-times-requires
 gate-times-requires c κs =
     let p = c .before .before .before .before .before .before .pre in
-    (p .0, omega arith, omega arith, rw (c .before .before .operation2 .given .1) at (p .1), p .3, p .2)
+    (p .0, record { first = omega arith; last = omega arith; allows = rw (c .before .before .operation2 .given .1) at (p .1) }, p .3, p .2)
 
 gate-times-requires-2 : tie.Need-gate-times-requires-2
 gate-times-requires-2 c κs =
     let p = c .before .before .before .before .before .before .pre in
-    (p .0, omega arith, omega arith, rw (c .before .before .operation3 .given .1) at (p .1), p .3, p .2)
+    (p .0, record { first = omega arith; last = omega arith; allows = rw (c .before .before .operation3 .given .1) at (p .1) }, p .3, p .2)
 
 gate-times-requires-3 : tie.Need-gate-times-requires-3
 gate-times-requires-3 c κs =
     let p = c .before .before .before .before .before .before .pre in
-    (p .0, omega arith, omega arith, rw (c .before .before .operation4 .given .1) at (p .1), p .3, p .2)
+    (p .0, record { first = omega arith; last = omega arith; allows = rw (c .before .before .operation4 .given .1) at (p .1) }, p .3, p .2)
 
 gate-all-requires : tie.Need-gate-all-requires
 gate-all-requires c κs =
     let p = c .before .before .before .before .before .before .pre in
-    (p .0, rw (c .before .before .operation5 .given .1) at (p .1), λ e. absurd (omega arith), p .3, p .2)
+    (p .0, record { allows = rw (c .before .before .operation5 .given .1) at (p .1); inverts = λ e. absurd (omega arith) }, p .3, p .2)
 
 gate-all-requires-2 : tie.Need-gate-all-requires-2
 gate-all-requires-2 c κs =
     let p = c .before .before .before .before .before .before .before .pre in
-    (p .0, rw (c .before .before .before .operation6 .given .1) at (p .1), λ _. c .before .inverse .ensures, p .3, p .2)
+    (p .0, record { allows = rw (c .before .before .before .operation6 .given .1) at (p .1); inverts = λ _. c .before .inverse .ensures }, p .3, p .2)
 
 enum-told : tie.Need-enum-told
 enum-told c = search needs

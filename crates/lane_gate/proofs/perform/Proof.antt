@@ -16,12 +16,12 @@ use Rattle.operation.specs.Gate.{gatePowers, gateFrame}
 use Rattle.operation.proofs.Gate.{gate-powers}
 use Rattle.operation.proofs.Operands.{distinct-facts, single-facts, pair-facts}
 use Rattle.circuit.specs.Circuit.{opAt}
-use Rattle.entries.specs.Entry.{coded}
+use Rattle.book_entries.specs.Entry.{coded}
 use Rattle.book.specs.Decoded.{operationsOf}
 use Rattle.book.proofs.Lists.{op-count}
 use Rattle.lanes.specs.Lanes.{Lanes, Each}
 use Rattle.lanes.proofs.Lanes.{each-lanes}
-use Rattle.codes.proofs.Codes.{is-coded, code-rest}
+use Rattle.operation_codes.proofs.Codes.{is-coded, code-rest}
 use Rattle.lane_gate.proofs.perform.Statement.{statement}
 use Rattle.lane_gate.proofs.perform.Tie as tie
 
@@ -33,10 +33,10 @@ abbrev code : tie.After-times-in → ℕ
 code e = getD (now (start e .args .ops)) (4 * start e .args .k) 0
 
 abbrev q : tie.After-times-in → ℕ
-q e = e .before .before .before .before .wide .result
+q e = e .before .before .before .before .byte-as-usize .result
 
 abbrev t : tie.After-times-in → ℕ
-t e = e .before .before .wide2 .result
+t e = e .before .before .byte-as-usize2 .result
 
 abbrev times : tie.After-times-in → ℕ
 times e = e .times-in .result
@@ -53,7 +53,7 @@ Did e o w = let a = start e .args in Each (gateFrame (a .d) (a .n) o) (a .n) (no
 good : (e : tie.After-times-in) → allowed (start e .args .d) (start e .args .n) (op e) ≡ true
 good e =
     let s = start e in
-    s .pre .3 (s .args .k) (omega (arith, s .pre .0, op-count (s .args .d) (s .args .n) (now (s .args .ops))))
+    s .pre .2 (s .args .k) (omega (arith, s .pre .0, op-count (s .args .d) (s .args .n) (now (s .args .ops))))
 
 is : (e : tie.After-times-in) → op e ≡ coded (code e) (q e) (t e) (u e)
 is e = cc (is-coded _ _ _ _ (start e .pre .0) (good e))
@@ -63,7 +63,7 @@ did : (e : tie.After-times-in) {o : Operation} {w : List ℕ} → op e ≡ o →
 did e {w = w} is x =
     let s = start e in
     let y : Did e (op e) w = rw is x in
-    (y, each-lanes (λ v p. gate-powers _ _ (omega (arith, s .pre .5 .low)) (op e) v (good e) p) (s .pre .4) y)
+    (y, each-lanes (λ v p. gate-powers _ _ (omega (arith, s .pre .4 .low)) (op e) v (good e) p) (s .pre .3) y)
 
 fourier : (c : tie.At-match-keys1) → op (c .before) ≡ Fourier (q (c .before)) (times (c .before))
 unfolding coded
@@ -94,35 +94,35 @@ fourier-lanes-requires c κs =
     let e = c .before .before in
     let s = start e in
     let f = single-facts 4 _ _ (times e) (rw (fourier (c .before)) at (good e)) in
-    (s .pre .1, s .pre .4, f .0)
+    (s .pre .3, f .0)
 
 phase-gate-lanes-requires : tie.Need-phase-gate-lanes-requires
 phase-gate-lanes-requires c κs =
     let e = c .before .before in
     let s = start e in
     let f = single-facts _ _ _ _ (rw (phase-gate (c .before)) at (good e)) in
-    (s .pre .1, s .pre .4, f .0, f .2, s .pre .5)
+    (s .pre .3, f .0, f .2, s .pre .4)
 
 sum-lanes-requires : tie.Need-sum-lanes-requires
 sum-lanes-requires c κs =
     let e = c .before .before in
     let s = start e in
     let f = pair-facts (s .args .d) (s .args .n) (q e) (t e) (times e) (rw (sum (c .before)) at (good e)) in
-    (s .pre .1, s .pre .4, omega arith, omega arith, f .4, s .pre .5)
+    (s .pre .3, omega arith, omega arith, f .4, s .pre .4)
 
 cz-lanes-requires : tie.Need-cz-lanes-requires
 cz-lanes-requires c κs =
     let e = c .before .before in
     let s = start e in
     let f = pair-facts (s .args .d) (s .args .n) (q e) (t e) (times e) (rw (cz (c .before)) at (good e)) in
-    (s .pre .1, s .pre .4, omega arith, omega arith, f .4, s .pre .5)
+    (s .pre .3, omega arith, omega arith, f .4, s .pre .4)
 
 swap-lanes-requires : tie.Need-swap-lanes-requires
 swap-lanes-requires c κs =
     let e = c .before .before in
     let s = start e in
     let f = distinct-facts _ _ _ (rw (swap (c .before)) at (good e)) in
-    (s .pre .1, s .pre .4, f .0, f .1)
+    (s .pre .3, f .0, f .1)
 
 multiplier-lanes-requires : tie.Need-multiplier-lanes-requires
 multiplier-lanes-requires c κs =
@@ -130,7 +130,7 @@ multiplier-lanes-requires c κs =
     let s = start e in
     let f = single-facts _ _ _ _ (rw (multiplier (c .before .before)) at (good e)) in
     let i = c .before .inverse .ensures in
-    (s .pre .1, s .pre .4, f .0, f .2, i, rw i (dimension _ (s .pre .2) .small _), s .pre .5)
+    (s .pre .3, f .0, record { below = f .2; inverts = i; small = rw i (dimension _ (s .pre .1) .small _) }, s .pre .4)
 
 returns-7 : tie.Need-returns-7
 unfolding gatePowers

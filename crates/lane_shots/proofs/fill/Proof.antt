@@ -29,8 +29,13 @@ slice-aggregate-fill-in-7 c = search needs
 
 fill-in-requires : tie.Need-fill-in-requires
 fill-in-requires c κs =
-    let o = c .before .before .before .before .before .before .before .before .before .before .before .before .before .before .before in
-    (refl, blank-length 65536, refl, refl, blank-length 4096, blank-length 4096, blank-length 16, o .pre .0, o .pre .1, o .pre .2, o .pre .3)
+    let o = c .before .before .before .before .before .before .before .before .before .before .before .before .before .before .before in (
+      record { lanes = refl; slots-room = blank-length 65536; no-counts = refl; no-cursors = refl },
+      record { tile-room = blank-length 4096; spare-room = blank-length 4096; marks-room = blank-length 16 },
+      o .pre .0,
+      o .pre .1,
+      o .pre .2,
+    )
 
 same-length : tie.Need-same-length
 same-length c = search needs

@@ -18,11 +18,11 @@ Inv-loop v xs n sum₀ k₀ sum k = (k ≤ n) × (sum ≡ dot n v xs k) × (sum 
 abbrev μ-loop : tie.MeasureT-loop
 μ-loop v xs n sum₀ k₀ sum k = n - k
 
-bound : (c : tie.After-wide Inv-loop μ-loop) → c .wide .result * getD (c .before .before .before .before .before .before .args .xs .now) (c .before .before .before .loop .k) 0 ≤ 900
+bound : (c : tie.After-byte-as-u16 Inv-loop μ-loop) → c .byte-as-u16 .result * getD (c .before .before .before .before .before .before .args .xs .now) (c .before .before .before .loop .k) 0 ≤ 900
 bound c =
     let s = c .before .before .before .before .before .before in
     let k = c .before .before .before .loop .k in
-    rw (c .wide .ensures) (product-small (le-refl 31) (s .pre .1 .below (s .args .n + k) (omega arith)) (s .pre .2 .below k (omega arith)))
+    rw (c .byte-as-u16 .ensures) (product-small (le-refl 31) (s .pre .1 .below (s .args .n + k) (omega arith)) (s .pre .2 .below k (omega arith)))
 
 loop-holds : tie.Need-loop-holds Inv-loop μ-loop
 unfolding dot
@@ -39,7 +39,7 @@ add-sum c = omega (arith, bound (c .before))
 
 loop-again : tie.Need-loop-again Inv-loop μ-loop
 unfolding dot
-loop-again c = (omega arith, rw (add-one (c .before .before .before .before .loop .k), ← c .before .before .before .before .loop .inv .1, c .before .wide .ensures), omega (arith, bound (c .before)))
+loop-again c = (omega arith, rw (add-one (c .before .before .before .before .loop .k), ← c .before .before .before .before .loop .inv .1, c .before .byte-as-u16 .ensures), omega (arith, bound (c .before)))
 
 returns : tie.Need-returns Inv-loop μ-loop
 returns c = (c .before .loop .inv .1 ∙ ap (dot _ _ _) (le-antisymm (c .before .loop .inv .0) (c .loop-test .left)), omega arith)

@@ -13,14 +13,14 @@ use Rattle.row.proofs.product.Tie as tie
 mixed-requires : tie.Need-mixed-requires
 mixed-requires c κs =
     let p = c .before .before .before .before .pre in
-    let b = p .4 .base in
-    (p .0, wider (p .5 .high) (powers-of (p .1)), record { room = b .room; below = λ q l. omega (arith, b .below q l, p .5 .high) })
+    let b = p .2 .powers .base in
+    (p .0, wider (p .3 .high) (powers-of (p .1)), record { room = b .room; below = λ q l. omega (arith, b .below q l, p .3 .high) })
 
-product-phase-requires : tie.Need-product-phase-requires
-product-phase-requires c κs = let p = c .before .before .before .before .before .before .before .pre in (omega (arith, p .3, p .5 .high), p .5)
+reduce-multiply-add-requires : tie.Need-reduce-multiply-add-requires
+reduce-multiply-add-requires c κs = let p = c .before .before .before .before .before .before .before .pre in (omega (arith, p .2 .factor, p .3 .high), p .3)
 
 add-requires : tie.Need-add-requires
-add-requires c κs = let p = c .before .before .before .before .before .before .before .before .before .pre in (p .5 .high, p .1, p .2)
+add-requires c κs = let p = c .before .before .before .before .before .before .before .before .before .pre in (p .3 .high, p .1, p .2 .row)
 
 returns : tie.Need-returns
 unfolding product
@@ -29,9 +29,9 @@ returns c =
     let a = s .args in
     rw (
       c .before .before .add .ensures,
-      c .before .before .before .before .product-phase .ensures,
+      c .before .before .before .before .reduce-multiply-add .ensures,
       c .before .before .before .before .before .before .before .mixed .ensures .0,
-      phase-multiple _ _ _ _ _ _ (s .pre .4) (phaseOf (a .n) (a .v .now) + phaseOf (a .n) (a .w .now)),
+      phase-multiple _ _ _ _ _ _ (s .pre .2 .powers) (phaseOf (a .n) (a .v .now) + phaseOf (a .n) (a .w .now)),
     )
     (filled-row _ _ _ _ (s .pre .1 .len))
 
@@ -43,7 +43,7 @@ product-spec =
     mixed-requires
     (λ c. search needs)
     (λ c. search needs)
-    product-phase-requires
+    reduce-multiply-add-requires
     add-requires
     (λ c. search needs)
     (λ c. search needs)

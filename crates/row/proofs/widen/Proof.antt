@@ -21,7 +21,7 @@ slice-write-xs : tie.Need-slice-write-xs Inv-loop μ-loop
 slice-write-xs c = omega (arith, c .before .before .before .loop .inv .1 .len)
 
 loop-again : tie.Need-loop-again Inv-loop μ-loop
-loop-again c = (omega arith, filled-more _ _ _ _ (c .before .before .before .loop .inv .1) (omega arith) _ (c .wide .ensures))
+loop-again c = (omega arith, filled-more _ _ _ _ (c .before .before .before .loop .inv .1) (omega arith) _ (c .byte-as-u16 .ensures))
 
 same-length : tie.Need-same-length Inv-loop μ-loop
 same-length c = c .before .loop .inv .1 .len

@@ -11,7 +11,7 @@ use Rattle.tableau.proofs.Parts.{take-replicate}
 use Rattle.tableau.proofs.Sized.{sized-bytes}
 use Rattle.lane_shots.specs.LaneShots.{blank}
 use Rattle.lane_shots.proofs.Starting.{blank-length}
-use Rattle.shots_run.proofs.Separate.{told-by}
+use Rattle.shots_run.proofs.Separate.{results-by}
 use Rattle.shots_run.proofs.run.Statement.{statement}
 use Rattle.shots_run.proofs.run.Tie as tie
 
@@ -41,7 +41,7 @@ run-in-requires c κs =
     )
 
 returns : tie.Need-returns
-returns c = let o = c .before .before .before .before .before .before .before .before .before .before .before .before .before in told-by (o .pre .0) (o .pre .1) (c .before .before .before .before .run-in .ensures)
+returns c = let o = c .before .before .before .before .before .before .before .before .before .before .before .before .before in results-by (o .pre .0) (o .pre .1) (c .before .before .before .before .run-in .ensures)
 
 pub run-spec : {M : Type 1} → statement M
 run-spec =

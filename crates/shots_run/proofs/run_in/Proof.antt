@@ -9,7 +9,7 @@ use lib.ListN.{length}
 use lib.Seq.{length-take-le}
 use Rattle.tableau.specs.Tableau.{part}
 use Rattle.lane_shots.proofs.Starting.{blank-length}
-use Rattle.shots_run.proofs.CleanRun.{loaded, copied-valid, fits-told, told}
+use Rattle.shots_run.proofs.CleanRun.{loaded, copied-valid, run-shots, filled-by-clean}
 use Rattle.shots_run.proofs.run_in.Statement.{statement}
 use Rattle.shots_run.proofs.run_in.Tie as tie
 
@@ -37,14 +37,14 @@ fill-requires c κs =
     let y = r .before .before .before .before .before in
     let o = y .before .before .before .before .before .before .before .before .before .before in
     let h = o .pre .0 in
-    (loaded h, fits-told h (now (o .args .copy)) _ _ _ _ (o .pre .1) (y .copy .ensures) (o .pre .2) (r .run .ensures .0), o .pre .3)
+    (loaded h, run-shots h (now (o .args .copy)) _ _ _ _ (o .pre .1) (y .copy .ensures) (o .pre .2) (r .run .ensures .0), o .pre .3)
 
 returns : tie.Need-returns
 returns c =
     let r = c .before .before .before .before .before .before .before .before .before .before in
     let y = r .before .before .before .before .before in
     let o = y .before .before .before .before .before .before .before .before .before .before in
-    told (o .pre .0) (now (o .args .copy)) _ _ _ _ (o .pre .1) (y .copy .ensures) (o .pre .2) (r .run .ensures .0) (c .before .before .fill .ensures)
+    filled-by-clean (o .pre .0) (now (o .args .copy)) _ _ _ _ (o .pre .1) (y .copy .ensures) (o .pre .2) (r .run .ensures .0) (c .before .before .fill .ensures)
 
 pub run-in-spec : {M : Type 1} → statement M
 run-in-spec =

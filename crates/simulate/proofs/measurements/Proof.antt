@@ -20,17 +20,17 @@ mul-if1 c = search needs
 shared-slice-read-if1 : tie.Need-shared-slice-read-if1 Inv-loop μ-loop
 shared-slice-read-if1 c = search needs
 
-mul-wide : tie.Need-mul-wide Inv-loop μ-loop
-mul-wide c = search needs
+mul-byte-as-usize : tie.Need-mul-byte-as-usize Inv-loop μ-loop
+mul-byte-as-usize c = search needs
 
-add-wide : tie.Need-add-wide Inv-loop μ-loop
-add-wide c = search needs
+add-byte-as-usize : tie.Need-add-byte-as-usize Inv-loop μ-loop
+add-byte-as-usize c = search needs
 
-shared-slice-read-wide : tie.Need-shared-slice-read-wide Inv-loop μ-loop
-shared-slice-read-wide c = search needs
+shared-slice-read-byte-as-usize : tie.Need-shared-slice-read-byte-as-usize Inv-loop μ-loop
+shared-slice-read-byte-as-usize c = search needs
 
-wide-requires : tie.Need-wide-requires Inv-loop μ-loop
-wide-requires c κs = search needs
+byte-as-usize-requires : tie.Need-byte-as-usize-requires Inv-loop μ-loop
+byte-as-usize-requires c κs = search needs
 
 measurement-requires : tie.Need-measurement-requires Inv-loop μ-loop
 measurement-requires c κs = search needs
@@ -59,10 +59,10 @@ measurements-spec =
     loop-holds
     mul-if1
     shared-slice-read-if1
-    mul-wide
-    add-wide
-    shared-slice-read-wide
-    wide-requires
+    mul-byte-as-usize
+    add-byte-as-usize
+    shared-slice-read-byte-as-usize
+    byte-as-usize-requires
     measurement-requires
     add-j
     add-k

@@ -26,11 +26,11 @@ loop-holds c = search needs
 slice-aggregate-write : tie.Need-slice-aggregate-write Inv-loop μ-loop
 slice-aggregate-write c = search needs
 
-element-copy-out-wide : tie.Need-element-copy-out-wide Inv-loop μ-loop
-element-copy-out-wide c = search needs
+element-copy-out-byte-as-usize : tie.Need-element-copy-out-byte-as-usize Inv-loop μ-loop
+element-copy-out-byte-as-usize c = search needs
 
-wide-requires : tie.Need-wide-requires Inv-loop μ-loop
-wide-requires c κs = search needs
+byte-as-usize-requires : tie.Need-byte-as-usize-requires Inv-loop μ-loop
+byte-as-usize-requires c κs = search needs
 
 write-requires : tie.Need-write-requires Inv-loop μ-loop
 write-requires c κs = search needs
@@ -64,8 +64,8 @@ shift-line-spec =
     mul-i-end
     loop-holds
     slice-aggregate-write
-    element-copy-out-wide
-    wide-requires
+    element-copy-out-byte-as-usize
+    byte-as-usize-requires
     write-requires
     add-i
     loop-less

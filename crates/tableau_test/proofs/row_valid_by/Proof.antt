@@ -1,12 +1,17 @@
 -- `tableau_test::row_valid_by` meets its contract.
 -- Assumes nothing.
-use mathlib.Core.Path.{_∙_}
+use mathlib.Core.Path.{refl, _∙_}
 use borrow.Author.Needs.{needs}
 use Rattle.row.specs.Row.{pairing}
 use Rattle.search.proofs.Search.{all-same}
 use Rattle.validity.specs.Validity.{rowValid}
 use Rattle.tableau_test.proofs.row_valid_by.Statement.{statement}
 use Rattle.tableau_test.proofs.row_valid_by.Tie as tie
+
+row-sums-requires : tie.Need-row-sums-requires
+row-sums-requires c κs =
+    let p = c .before .before .before .before .pre in
+    (p .0, record { size = p .1 .qudits; tableau = p .1 .rows }, p .1 .columns, refl, refl)
 
 returns : tie.Need-returns
 unfolding rowValid pairing
@@ -18,7 +23,7 @@ row-valid-by-spec =
     (tie.spec
     (λ c. search needs)
     (λ c. search needs)
-    (λ c κs. search needs)
+    row-sums-requires
     (λ c. search needs)
     (λ c. search needs)
     (λ c κs. search needs)

@@ -13,7 +13,7 @@ tableau-wider : (d n : ℕ) (t : List ℕ) → d ≤ 31 → Tableau d n t → Ta
 tableau-wider d n t h r = record { room = r .room; below = λ i l. omega (arith, r .below i l) }
 
 lay-columns-requires : tie.Need-lay-columns-requires
-lay-columns-requires c κs = let p = c .before .before .pre in (p .2, tableau-wider _ _ _ (p .1) (p .3), refl)
+lay-columns-requires c κs = let p = c .before .before .pre in (record { size = p .2; tableau = tableau-wider _ _ _ (p .1) (p .3) }, refl)
 
 rows-valid-by-requires : tie.Need-rows-valid-by-requires
 rows-valid-by-requires c κs = let p = c .before .before .before .before .before .pre in (p .0, p .1, p .2, tableau-wider _ _ _ (p .1) (p .3), c .before .before .lay-columns .ensures)

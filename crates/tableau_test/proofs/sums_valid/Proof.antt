@@ -22,7 +22,7 @@ loop-holds c = (omega arith, refl)
 
 loop-again : tie.Need-loop-again Inv-loop μ-loop
 unfolding all
-loop-again c = let l = c .before .before .before .before .before .loop in (omega arith, rw (add-one (l .k), ← l .inv .1, c .before .difference .ensures, c .wanted .ensures))
+loop-again c = let l = c .before .before .before .before .before .loop in (omega arith, rw (add-one (l .k), ← l .inv .1, c .before .reduce-difference .ensures, c .wanted .ensures))
 
 returns : tie.Need-returns Inv-loop μ-loop
 returns c = let e : c .before .loop .k ≡ c .before .before .before .before .args .i = omega arith in rw e at (c .before .loop .inv .1)

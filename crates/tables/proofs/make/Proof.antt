@@ -1,9 +1,7 @@
 -- `tables::make` meets its contract.
 -- Assumes nothing.
-use native.Mathlib.Omega.{arith}
 use borrow.Author.Needs.{needs}
 use Rattle.tableau.specs.Tableau.{part, put}
-use Rattle.tableau.proofs.Parts.{part-length}
 use Rattle.tables.proofs.Tables.{tables-made}
 use Rattle.tables.proofs.make.Statement.{statement}
 use Rattle.tables.proofs.make.Tie as tie
@@ -12,12 +10,10 @@ returns : tie.Need-returns
 unfolding part put
 returns c =
     let s = c .before .before .before .before .before .before .before .before .before .before .before .before .before .before in
-    let q = part-length 0 96 (s .args .tables .now) (omega (arith, s .pre .2)) in
     rw (
       c .before .before .make-triangles .ensures,
       c .before .before .before .before .before .before .make-products .ensures,
-      c .before .before .before .before .before .before .before .before .before .before .multiples .ensures,
-      q,
+      c .before .before .before .before .before .before .before .before .before .before .make-rests .ensures,
     )
     (tables-made (s .args .d) (s .pre .0) (s .pre .1) (s .args .tables .now) (s .pre .2))
 

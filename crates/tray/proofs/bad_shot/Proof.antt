@@ -6,7 +6,7 @@ use mathlib.Core.Path.{_≡_, refl, sym, ap, ap₂, _∙_}
 use Prim.Native.Nat.{ℕ, _-_, _+_, _*_, _≤_, _<_}
 use Rattle.search.specs.declared.Place.the-variants.{At, Nowhere}
 use Rattle.tray.specs.Tray.{shotsIn, lengthAt, startOf, goodShot, badShot}
-use Rattle.tray.proofs.Tabled.{tabled-says, body-inside, table-inside}
+use Rattle.tray.proofs.Table.{table-says, body-inside, table-inside}
 use Rattle.search.specs.Search.{firstNot}
 use Rattle.search.proofs.Search.{none-yet, found}
 use mathlib.Core.Bool.{true, false}
@@ -16,7 +16,7 @@ use denote.Ref.{now}
 use native.Mathlib.Numerals.{add-one}
 use native.Mathlib.Nat.{le-antisymm, add-sub-cancel-left}
 use Rattle.tableau.specs.Tableau.{part}
-use Rattle.body.specs.Body.{badError}
+use Rattle.book_body.specs.Body.{badError}
 use Rattle.tray.proofs.bad_shot.Statement.{statement}
 use Rattle.tray.proofs.bad_shot.Tie as tie
 
@@ -35,7 +35,7 @@ abbrev μ-loop : tie.MeasureT-loop
 μ-loop tray count d n shots start₀ i₀ start i = shots - i
 
 word-requires : tie.Need-word-requires Inv-loop μ-loop
-word-requires c κs = let s = now (c .before .args .tray) in omega (arith, table-inside s (tabled-says s (c .before .pre)))
+word-requires c κs = let s = now (c .before .args .tray) in omega (arith, table-inside s (table-says s (c .before .pre)))
 
 mul-start : tie.Need-mul-start Inv-loop μ-loop
 mul-start c = search needs
@@ -54,7 +54,7 @@ add-word : tie.Need-add-word Inv-loop μ-loop
 add-word c = search needs
 
 word-requires-2 : tie.Need-word-requires-2 Inv-loop μ-loop
-word-requires-2 c κs = let s = now (c .before .before .before .before .args .tray) in omega (arith, table-inside s (tabled-says s (c .before .before .before .before .pre)), c .before .before .word .ensures .0, c .loop-test .taken)
+word-requires-2 c κs = let s = now (c .before .before .before .before .args .tray) in omega (arith, table-inside s (table-says s (c .before .before .before .before .pre)), c .before .before .word .ensures .0, c .loop-test .taken)
 
 add-end : tie.Need-add-end Inv-loop μ-loop
 add-end c =
@@ -62,7 +62,7 @@ add-end c =
     let s = now (o .args .tray) in
     let w = c .before .before .before .word .ensures .0 in
     let l : c .before .before .loop .i < shotsIn s = omega (arith, w, c .before .loop-test .taken) in
-    omega (arith, body-inside s (tabled-says s (o .pre)) _ l, c .before .before .loop .inv .1, c .word2 .ensures .0)
+    omega (arith, body-inside s (table-says s (o .pre)) _ l, c .before .before .loop .inv .1, c .word2 .ensures .0)
 
 sub-bad-error : tie.Need-sub-bad-error Inv-loop μ-loop
 sub-bad-error c = search needs
@@ -76,7 +76,7 @@ part-bad-error-end c =
     let s = now (o .args .tray) in
     let w = c .before .before .before .word .ensures .0 in
     let l : c .before .before .loop .i < shotsIn s = omega (arith, w, c .before .loop-test .taken) in
-    omega (arith, body-inside s (tabled-says s (o .pre)) _ l, c .before .before .loop .inv .1, c .word2 .ensures .0)
+    omega (arith, body-inside s (table-says s (o .pre)) _ l, c .before .before .loop .inv .1, c .word2 .ensures .0)
 
 bad-error-requires : tie.Need-bad-error-requires Inv-loop μ-loop
 bad-error-requires c κs = search needs

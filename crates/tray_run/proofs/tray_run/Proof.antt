@@ -5,8 +5,8 @@ use native.Mathlib.Omega.{arith}
 use denote.Ref.{now}
 use borrow.Author.Needs.{needs}
 use Rattle.modular.proofs.Listed.{dimension}
-use Rattle.shots.specs.Shots.{trayTold, trayBook}
-use Rattle.tray.proofs.Tabled.{tabled-says, table-inside}
+use Rattle.shots.specs.Shots.{trayByAnswer, trayBook}
+use Rattle.tray.proofs.Table.{table-says, table-inside}
 use Rattle.tray_run.proofs.Books.{failed, held, opened, bad-table, bad-tray, sizes, short-book, rooms, invalid-book, given, most, run-book}
 use Rattle.tray_run.proofs.tray_run.Statement.{statement}
 use Rattle.tray_run.proofs.tray_run.Tie as tie
@@ -20,20 +20,20 @@ enum-known-reading c = search needs
 enum-known-reading-2 : tie.Need-enum-known-reading-2
 enum-known-reading-2 c = search needs
 
-wide-requires : tie.Need-wide-requires
-wide-requires c κs = search needs
+byte-as-usize-requires : tie.Need-byte-as-usize-requires
+byte-as-usize-requires c κs = search needs
 
 refused-requires : tie.Need-refused-requires
 refused-requires c κs = tt
 
 returns : tie.Need-returns
-unfolding trayTold trayBook
+unfolding trayByAnswer trayBook
 returns c =
     let m = c .before .before .before in
-    rw (c .refused .ensures, ← m .before .before .read .ensures, m .reading2 .given .1, c .before .wide .ensures .0)
+    rw (c .refused .ensures, ← m .before .before .read .ensures, m .reading2 .given .1, c .before .byte-as-usize .ensures .0)
 
-is-tabled-requires : tie.Need-is-tabled-requires
-is-tabled-requires c κs = search needs
+table-fits-requires : tie.Need-table-fits-requires
+table-fits-requires c κs = search needs
 
 refused-requires-2 : tie.Need-refused-requires-2
 refused-requires-2 c κs = tt
@@ -43,10 +43,10 @@ returns-2 c =
     let m = c .before .before .before .before in
     let a = m .before .before .before .before .before .before .before .args in
     let b = opened (now (a .book)) (m .before .before .read .ensures) (m .reading .given .1) in
-    rw (c .refused2 .ensures) (bad-table b (now (a .tray)) (now (a .t)) (now (a .out)) (failed (c .before .before .is-tabled .ensures) (c .before .if1 .taken)))
+    rw (c .refused2 .ensures) (bad-table b (now (a .tray)) (now (a .t)) (now (a .out)) (failed (c .before .before .table-fits .ensures) (c .before .if1 .taken)))
 
 bad-shot-requires : tie.Need-bad-shot-requires
-bad-shot-requires c κs = held (c .before .is-tabled .ensures) (c .if1 .left)
+bad-shot-requires c κs = held (c .before .table-fits .ensures) (c .if1 .left)
 
 enum-known-shot : tie.Need-enum-known-shot
 enum-known-shot c = search needs
@@ -61,7 +61,7 @@ returns-3 c =
     let m = i .before .before in
     let a = m .before .before .before .before .before .before .before .args in
     let b = opened (now (a .book)) (m .before .before .read .ensures) (m .reading .given .1) in
-    let table = held (i .is-tabled .ensures) (p .before .if1 .left) in
+    let table = held (i .table-fits .ensures) (p .before .if1 .left) in
     rw (c .refused3 .ensures) (bad-tray b (now (a .tray)) (now (a .t)) (now (a .out)) table (sym (p .bad-shot .ensures) ∙ c .before .before .shot .given .1))
 
 enum-told : tie.Need-enum-told
@@ -74,17 +74,17 @@ word-requires c κs =
     let m = i .before .before in
     let a = m .before .before .before .before .before .before .before .args in
     let b = opened (now (a .book)) (m .before .before .read .ensures) (m .reading .given .1) in
-    let table = held (i .is-tabled .ensures) (p .before .if1 .left) in
-    omega (arith, table-inside (now (a .tray)) (tabled-says (now (a .tray)) table))
+    let table = held (i .table-fits .ensures) (p .before .if1 .left) in
+    omega (arith, table-inside (now (a .tray)) (table-says (now (a .tray)) table))
 
-is-roomy-requires : tie.Need-is-roomy-requires
-is-roomy-requires c κs =
+buffers-fit-requires : tie.Need-buffers-fit-requires
+buffers-fit-requires c κs =
     let p = c .before .before .before .before in
     let i = p .before .before in
     let m = i .before .before in
     let a = m .before .before .before .before .before .before .before .args in
     let b = opened (now (a .book)) (m .before .before .read .ensures) (m .reading .given .1) in
-    let table = held (i .is-tabled .ensures) (p .before .if1 .left) in
+    let table = held (i .table-fits .ensures) (p .before .if1 .left) in
     let z = sizes b (now (a .tray)) (now (a .t)) (now (a .out)) table in
     (z .0, z .1, omega (arith, z .2, c .before .word .ensures .0))
 
@@ -102,9 +102,9 @@ returns-4 c =
     let m = i .before .before in
     let a = m .before .before .before .before .before .before .before .args in
     let b = opened (now (a .book)) (m .before .before .read .ensures) (m .reading .given .1) in
-    let table = held (i .is-tabled .ensures) (p .before .if1 .left) in
+    let table = held (i .table-fits .ensures) (p .before .if1 .left) in
     let good = sym (p .bad-shot .ensures) ∙ o .before .before .before .enum-told .given .1 in
-    let room = rw (o .before .before .word .ensures .0) at (o .is-roomy .ensures) in
+    let room = rw (o .before .before .word .ensures .0) at (o .buffers-fit .ensures) in
     rw (c .refused4 .ensures) (short-book b (now (a .tray)) (now (a .t)) (now (a .out)) table good (failed room (c .before .if2 .taken)))
 
 is-valid-requires : tie.Need-is-valid-requires
@@ -115,13 +115,13 @@ is-valid-requires c κs =
     let m = i .before .before in
     let a = m .before .before .before .before .before .before .before .args in
     let b = opened (now (a .book)) (m .before .before .read .ensures) (m .reading .given .1) in
-    let table = held (i .is-tabled .ensures) (p .before .if1 .left) in
+    let table = held (i .table-fits .ensures) (p .before .if1 .left) in
     let good = sym (p .bad-shot .ensures) ∙ o .before .before .before .enum-told .given .1 in
-    let room = rw (o .before .before .word .ensures .0) at (o .is-roomy .ensures) in
-    let roomy = held room (c .if2 .left) in
+    let room = rw (o .before .before .word .ensures .0) at (o .buffers-fit .ensures) in
+    let fitting = held room (c .if2 .left) in
     let h = b .hands in
     let dim = dimension _ (h .dimension) in
-    (dim .low, dim .high, h .qudits, rooms b (now (a .tray)) (now (a .t)) (now (a .out)) table good roomy .0)
+    (dim .low, dim .high, h .qudits, rooms b (now (a .tray)) (now (a .t)) (now (a .out)) table good fitting .0)
 
 refused-requires-5 : tie.Need-refused-requires-5
 refused-requires-5 c κs = tt
@@ -138,25 +138,25 @@ returns-5 c =
     let m = i .before .before in
     let a = m .before .before .before .before .before .before .before .args in
     let b = opened (now (a .book)) (m .before .before .read .ensures) (m .reading .given .1) in
-    let table = held (i .is-tabled .ensures) (p .before .if1 .left) in
+    let table = held (i .table-fits .ensures) (p .before .if1 .left) in
     let good = sym (p .bad-shot .ensures) ∙ o .before .before .before .enum-told .given .1 in
-    let room = rw (o .before .before .word .ensures .0) at (o .is-roomy .ensures) in
-    let roomy = held room (v .before .if2 .left) in
-    rw (c .refused5 .ensures) (invalid-book b (now (a .tray)) (now (a .t)) (now (a .out)) table good roomy (failed (v .is-valid .ensures) (c .before .if3 .taken)))
+    let room = rw (o .before .before .word .ensures .0) at (o .buffers-fit .ensures) in
+    let fitting = held room (v .before .if2 .left) in
+    rw (c .refused5 .ensures) (invalid-book b (now (a .tray)) (now (a .t)) (now (a .out)) table good fitting (failed (v .is-valid .ensures) (c .before .if3 .taken)))
 
-part-of-requires : tie.Need-part-of-requires
-part-of-requires c κs =
+operations-requires : tie.Need-operations-requires
+operations-requires c κs =
     let m = c .before .before .before .before .before .before .before .before .before .before .before .before .before in
     let a = m .before .before .before .before .before .before .before .args in
     let b = opened (now (a .book)) (m .before .before .read .ensures) (m .reading .given .1) in
-    (omega arith, b .hands .bodies .room, b .hands .bodies .first)
+    (b .hands .bodies .room, b .hands .bodies .first)
 
-part-of-requires-2 : tie.Need-part-of-requires-2
-part-of-requires-2 c κs =
+choices-requires : tie.Need-choices-requires
+choices-requires c κs =
     let m = c .before .before .before .before .before .before .before .before .before .before .before .before .before .before in
     let a = m .before .before .before .before .before .before .before .args in
     let b = opened (now (a .book)) (m .before .before .read .ensures) (m .reading .given .1) in
-    (omega arith, b .hands .bodies .room, b .hands .bodies .third)
+    (b .hands .bodies .room, b .hands .bodies .third)
 
 run-requires : tie.Need-run-requires
 run-requires c κs =
@@ -167,12 +167,12 @@ run-requires c κs =
     let m = i .before .before in
     let a = m .before .before .before .before .before .before .before .args in
     let b = opened (now (a .book)) (m .before .before .read .ensures) (m .reading .given .1) in
-    let table = held (i .is-tabled .ensures) (p .before .if1 .left) in
+    let table = held (i .table-fits .ensures) (p .before .if1 .left) in
     let good = sym (p .bad-shot .ensures) ∙ o .before .before .before .enum-told .given .1 in
-    let room = rw (o .before .before .word .ensures .0) at (o .is-roomy .ensures) in
-    let roomy = held room (v .before .if2 .left) in
+    let room = rw (o .before .before .word .ensures .0) at (o .buffers-fit .ensures) in
+    let fitting = held room (v .before .if2 .left) in
     let tested = held (v .is-valid .ensures) (c .before .before .before .if3 .left) in
-    rw (c .before .part-of .ensures, c .part-of2 .ensures) (given b (now (a .tray)) (now (a .t)) (now (a .out)) table good roomy tested, rooms b (now (a .tray)) (now (a .t)) (now (a .out)) table good roomy .1)
+    rw (c .before .operations .ensures, c .choices .ensures) (given b (now (a .tray)) (now (a .t)) (now (a .out)) table good fitting tested, rooms b (now (a .tray)) (now (a .t)) (now (a .out)) table good fitting .1)
 
 sub-clean : tie.Need-sub-clean
 sub-clean c =
@@ -184,13 +184,13 @@ sub-clean c =
     let m = i .before .before in
     let a = m .before .before .before .before .before .before .before .args in
     let b = opened (now (a .book)) (m .before .before .read .ensures) (m .reading .given .1) in
-    let table = held (i .is-tabled .ensures) (p .before .if1 .left) in
+    let table = held (i .table-fits .ensures) (p .before .if1 .left) in
     let good = sym (p .bad-shot .ensures) ∙ o .before .before .before .enum-told .given .1 in
-    let room = rw (o .before .before .word .ensures .0) at (o .is-roomy .ensures) in
-    let roomy = held room (v .before .if2 .left) in
+    let room = rw (o .before .before .word .ensures .0) at (o .buffers-fit .ensures) in
+    let fitting = held room (v .before .if2 .left) in
     let tested = held (v .is-valid .ensures) (r .before .before .before .before .if3 .left) in
-    let filled = rw (r .before .before .part-of .ensures, r .before .part-of2 .ensures) at (r .run .ensures) in
-    omega (arith, most b (now (a .tray)) (now (a .t)) (now (a .out)) table good roomy tested (filled .1), o .before .before .word .ensures .0)
+    let filled = rw (r .before .before .operations .ensures, r .before .choices .ensures) at (r .run .ensures) in
+    omega (arith, most b (now (a .tray)) (now (a .t)) (now (a .out)) table good fitting tested (filled .1), o .before .before .word .ensures .0)
 
 same-length-3 : tie.Need-same-length-3
 same-length-3 c = search needs
@@ -205,13 +205,13 @@ returns-6 c =
     let m = i .before .before in
     let a = m .before .before .before .before .before .before .before .args in
     let b = opened (now (a .book)) (m .before .before .read .ensures) (m .reading .given .1) in
-    let table = held (i .is-tabled .ensures) (p .before .if1 .left) in
+    let table = held (i .table-fits .ensures) (p .before .if1 .left) in
     let good = sym (p .bad-shot .ensures) ∙ o .before .before .before .enum-told .given .1 in
-    let room = rw (o .before .before .word .ensures .0) at (o .is-roomy .ensures) in
-    let roomy = held room (v .before .if2 .left) in
+    let room = rw (o .before .before .word .ensures .0) at (o .buffers-fit .ensures) in
+    let fitting = held room (v .before .if2 .left) in
     let tested = held (v .is-valid .ensures) (r .before .before .before .before .if3 .left) in
-    let filled = rw (r .before .before .part-of .ensures, r .before .part-of2 .ensures) at (r .run .ensures) in
-    rw (o .before .before .word .ensures .0) (run-book b (now (a .tray)) (now (a .t)) (now (a .out)) table good roomy tested (filled .1) (filled .0))
+    let filled = rw (r .before .before .operations .ensures, r .before .choices .ensures) at (r .run .ensures) in
+    rw (o .before .before .word .ensures .0) (run-book b (now (a .tray)) (now (a .t)) (now (a .out)) table good fitting tested (filled .1) (filled .0))
 
 pub tray-run-spec : {M : Type 1} → statement M
 tray-run-spec =
@@ -220,10 +220,10 @@ tray-run-spec =
     read-requires
     enum-known-reading
     enum-known-reading-2
-    wide-requires
+    byte-as-usize-requires
     refused-requires
     returns
-    is-tabled-requires
+    table-fits-requires
     refused-requires-2
     returns-2
     bad-shot-requires
@@ -232,7 +232,7 @@ tray-run-spec =
     returns-3
     enum-told
     word-requires
-    is-roomy-requires
+    buffers-fit-requires
     refused-requires-4
     same-length
     returns-4
@@ -240,8 +240,8 @@ tray-run-spec =
     refused-requires-5
     same-length-2
     returns-5
-    part-of-requires
-    part-of-requires-2
+    operations-requires
+    choices-requires
     run-requires
     sub-clean
     same-length-3

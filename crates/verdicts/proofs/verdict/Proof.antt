@@ -10,7 +10,7 @@ use borrow.Author.Tests.{eq-eqb, ne-eqb}
 use Rattle.search.specs.Search.{all}
 use Rattle.search.proofs.Search.{all-more, all-fails}
 use borrow.Author.Needs.{needs}
-use Rattle.run.specs.Frame.{shiftAt, noShift, verdictOf}
+use Rattle.runs.specs.Frame.{shiftAt, noShift, verdictOf}
 use Rattle.verdicts.proofs.verdict.Statement.{statement}
 use Rattle.verdicts.proofs.verdict.Tie as tie
 

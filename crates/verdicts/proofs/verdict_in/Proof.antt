@@ -8,7 +8,7 @@ copy-lane-requires : tie.Need-copy-lane-requires
 copy-lane-requires c κs = search needs
 
 verdict-requires : tie.Need-verdict-requires
-verdict-requires c κs = let s = c .before .before .before .before .before .before .before .before in (s .pre .0, s .pre .4, rw (c .before .before .before .copy-lane .ensures) (s .pre .3 .powers (s .args .l) (s .pre .1)), s .pre .5)
+verdict-requires c κs = let s = c .before .before .before .before .before .before .before .before in (s .pre .2 .qudits, s .pre .3, rw (c .before .before .before .copy-lane .ensures) (s .pre .2 .powers (s .args .l) (s .pre .0)), s .pre .4)
 
 same-length : tie.Need-same-length
 same-length c = search needs

@@ -4,7 +4,7 @@ use mathlib.Core.Path.{_≡_, sym, _∙_}
 use mathlib.Core.Bool.{true, false}
 use borrow.Author.Tests.{not-true, not-false}
 use borrow.Author.Needs.{needs}
-use Rattle.body.specs.Body.{lengthFits}
+use Rattle.book_body.specs.Body.{lengthFits}
 use Rattle.writer.proofs.bad_lengths.Statement.{statement}
 use Rattle.writer.proofs.bad_lengths.Tie as tie
 

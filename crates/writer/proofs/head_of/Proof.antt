@@ -1,7 +1,7 @@
 -- `head_of` meets its contract.
 -- Assumes nothing.
 use borrow.Author.Needs.{needs}
-use Rattle.written.specs.Written.{headOf}
+use Rattle.written_book.specs.Written.{headOf}
 use Rattle.writer.proofs.head_of.Statement.{statement}
 use Rattle.writer.proofs.head_of.Tie as tie
 

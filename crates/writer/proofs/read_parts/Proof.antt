@@ -8,7 +8,7 @@ use borrow.Author.Needs.{needs}
 use Rattle.modular.specs.Dimension.{listed}
 use Rattle.modular.proofs.Listed.{dimension}
 use Rattle.tableau.specs.Tableau.{sized}
-use Rattle.written.specs.Written.{readParts}
+use Rattle.written_book.specs.Written.{readParts}
 use Rattle.writer.proofs.read_parts.Statement.{statement}
 use Rattle.writer.proofs.read_parts.Tie as tie
 

@@ -10,11 +10,11 @@ pub struct Even;
 
 impl Phases for Even {
     fn enter(rows: &mut [u8], n: usize, m: &Modulo) {
-        turn_phases(rows, n, m.d / 2, m);
+        add_to_phases(rows, n, m.d / 2, m);
     }
 
     fn leave(rows: &mut [u8], n: usize, m: &Modulo) {
-        turn_phases(rows, n, m.d / 2 + 1, m);
+        add_to_phases(rows, n, m.d / 2 + 1, m);
     }
 
     fn fourier(rows: &mut [u8], n: usize, q: usize, m: &Modulo) {
@@ -84,7 +84,7 @@ impl Phases for Even {
 }
 
 /// Adds x·Σ a·b to each row's phase.
-fn turn_phases(rows: &mut [u8], n: usize, x: u8, m: &Modulo) {
+fn add_to_phases(rows: &mut [u8], n: usize, x: u8, m: &Modulo) {
     for row in rows.chunks_exact_mut(2 * n + 1) {
         let own = m.reduce(own_dot(row, n));
         row[2 * n] = m.rest(row[2 * n].wrapping_add(look_up(m.times(x), own)));

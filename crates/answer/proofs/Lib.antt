@@ -1,0 +1,2 @@
+-- What passes the tests of shape.
+pub mod Shape

@@ -1,0 +1,37 @@
+-- Bodies that must be judged so: antt computes each.
+-- Assumes nothing.
+use mathlib.Core.Path.{_≡_, refl}
+use mathlib.Core.List.{[], _∷_}
+use Rattle.search.specs.declared.Place.the-variants.{At, Nowhere}
+use Rattle.search.specs.Search.{firstNot}
+use Rattle.book_entries.specs.Entry.{decoded, errorAt}
+use Rattle.book_body.specs.Body.{badOperation, measurements, goodError, badError, badChoice, refused, accepted, readBodies}
+
+-- the first bad one, and not the last
+pub first-bad : badOperation 3 2 (0 ∷ 2 ∷ 0 ∷ 0 ∷ 7 ∷ 0 ∷ 0 ∷ 0 ∷ []) ≡ At 0
+unfolding firstNot decoded badOperation
+first-bad = refl
+
+-- With one operation, place 1 is after all and place 2 too high; a place may stay and not fall.
+pub places :
+    (badError 3 2 1 (1 ∷ 0 ∷ 0 ∷ 0 ∷ 0 ∷ 1 ∷ 0 ∷ 1 ∷ 2 ∷ 2 ∷ []) ≡ Nowhere) × (badError 3 2 1 (2 ∷ 0 ∷ 0 ∷ 0 ∷ 0 ∷ []) ≡ At 0)
+    × (badError 3 2 1 (1 ∷ 0 ∷ 0 ∷ 0 ∷ 0 ∷ 0 ∷ 0 ∷ 0 ∷ 0 ∷ 0 ∷ []) ≡ At 1)
+    × (badError 3 2 1 (0 ∷ 0 ∷ 2 ∷ 0 ∷ 0 ∷ []) ≡ At 0) × (badError 3 2 1 (0 ∷ 0 ∷ 0 ∷ 3 ∷ 0 ∷ []) ≡ At 0)
+    × (badError 3 2 1 (0 ∷ 0 ∷ 0 ∷ 0 ∷ 3 ∷ []) ≡ At 0)
+unfolding firstNot errorAt goodError badError
+places = (refl, refl, refl, refl, refl, refl)
+
+-- The smaller count comes before a bad value; a choice is below d.
+pub choices :
+    (badChoice 3 2 (7 ∷ []) ≡ At 1) × (badChoice 3 1 (7 ∷ 0 ∷ []) ≡ At 1)
+    × (badChoice 3 2 (2 ∷ 3 ∷ []) ≡ At 1) × (badChoice 3 1 (2 ∷ []) ≡ Nowhere)
+unfolding firstNot badChoice
+choices = (refl, refl, refl, refl)
+
+-- 5 comes before 6, and 6 before 7
+pub order :
+    (readBodies 3 2 (7 ∷ 0 ∷ 0 ∷ 0 ∷ []) (9 ∷ 0 ∷ 0 ∷ 0 ∷ 0 ∷ []) (0 ∷ []) ≡ refused 5 0)
+    × (readBodies 3 2 (0 ∷ 0 ∷ 0 ∷ 0 ∷ []) (9 ∷ 0 ∷ 0 ∷ 0 ∷ 0 ∷ []) (0 ∷ []) ≡ refused 6 0)
+    × (readBodies 3 2 (0 ∷ 0 ∷ 0 ∷ 0 ∷ []) [] (0 ∷ []) ≡ refused 7 0) × (readBodies 3 2 [] [] [] ≡ accepted 3 2 0 0 0)
+unfolding firstNot decoded errorAt goodError measurements badOperation badError badChoice readBodies
+order = (refl, refl, refl, refl)

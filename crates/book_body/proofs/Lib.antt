@@ -1,0 +1,4 @@
+-- Worked cases; what other proofs use.
+pub mod Cases
+pub mod Sound
+pub mod Answers

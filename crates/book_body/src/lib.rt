@@ -1,0 +1,133 @@
+// The three bodies of a shot book, and the first bad entry of each.
+ghost use mathlib.Core.Path.{_≡_};
+ghost use Prim.Native.Nat.{_*_, _/_, _<_};
+ghost use lib.ListN.{length};
+ghost use Rattle.book_body.specs.Body.{lengthFits, badOperation, measurements, errorFits, badError, smaller, badChoice, readBodies, answerOf};
+use book_entries::Decoded;
+use operation::WeylError;
+use search::Place;
+
+// The numbers of an accepted book.
+pub struct Numbers {
+    pub d: u8,
+    pub n: usize,
+    pub operations: usize,
+    pub errors: usize,
+    pub choices: usize,
+}
+
+// The reader's answer.
+pub enum Reading {
+    Accepted(Numbers),
+    Refused { number: u8, place: usize },
+}
+
+// A number of bytes that is whole entries of `size` bytes, at most `most` of them.
+pub fn length_fits(bytes: usize, size: usize, most: usize) -> bool
+    requires { ⌜ (0 < size)
+        × (size * most < 65536) ⌝ }
+    ensures { λ r. ⌜ r ≡ lengthFits bytes size most ⌝ }
+{
+    (bytes % size == 0) & (bytes <= size * most)
+}
+
+// 5: the first bad operation.
+pub fn bad_operation(ops: &[u8], d: u8, n: usize) -> Place
+    ensures { λ r. ⌜ r ≡ badOperation d n (now (ops .entry)) ⌝ }
+{
+    let count = ops.len() / 4;
+    let mut k = 0;
+    while k < count {
+        let Decoded::Good(_) = book_entries::operation_at(ops, k, d, n) else {
+            return Place::At(k);
+        };
+        k += 1;
+    }
+    Place::Nowhere
+}
+
+// How many of the operations are measurements.
+pub fn measurements(ops: &[u8]) -> usize
+    ensures { λ r. ⌜ r ≡ measurements (now (ops .entry)) (length (now (ops .entry)) / 4) ⌝ }
+{
+    let count = ops.len() / 4;
+    let mut sum = 0;
+    let mut k = 0;
+    while k < count {
+        sum += search::one_if(ops[4 * k] == 6);
+        k += 1;
+    }
+    sum
+}
+
+fn error_fits(d: u8, n: usize, count: usize, last: usize, e: WeylError) -> bool
+    ensures { λ r. ⌜ r ≡ errorFits d n count last e ⌝ }
+{
+    (e.place <= count) & ((last <= e.place) & ((e.qudit < n) & ((e.p < d) & (e.s < d))))
+}
+
+// 6: the first bad error of a book with `count` operations.
+pub fn bad_error(errors: &[u8], count: usize, d: u8, n: usize) -> Place
+    ensures { λ r. ⌜ r ≡ badError d n count (now (errors .entry)) ⌝ }
+{
+    let end = errors.len() / 5;
+    let mut last = 0;
+    let mut k = 0;
+    while k < end {
+        let e = book_entries::error_at(errors, k);
+        if !error_fits(d, n, count, last, e) {
+            return Place::At(k);
+        }
+        last = e.place;
+        k += 1;
+    }
+    Place::Nowhere
+}
+
+fn smaller(a: usize, b: usize) -> usize
+    ensures { λ r. ⌜ r ≡ smaller a b ⌝ }
+{
+    if a < b { a } else { b }
+}
+
+// 7: the smaller count where choices and measurements differ in number; else the first choice not below d.
+pub fn bad_choice(choices: &[u8], measured: usize, d: u8) -> Place
+    ensures { λ r. ⌜ r ≡ badChoice d measured (now (choices .entry)) ⌝ }
+{
+    let count = choices.len();
+    if count != measured {
+        return Place::At(smaller(count, measured));
+    }
+    let mut k = 0;
+    while k < count {
+        if choices[k] >= d {
+            return Place::At(k);
+        }
+        k += 1;
+    }
+    Place::Nowhere
+}
+
+// 5, 6 and 7 of three bodies, or their numbers.
+pub fn read_bodies(ops: &[u8], errors: &[u8], choices: &[u8], d: u8, n: usize) -> Reading
+    ensures { λ r. ⌜ answerOf r ≡ readBodies d n (now (ops .entry)) (now (errors .entry)) (now (choices .entry)) ⌝ }
+{
+    if let Place::At(place) = bad_operation(ops, d, n) {
+        return Reading::Refused { number: 5, place };
+    }
+    let operations = ops.len() / 4;
+    if let Place::At(place) = bad_error(errors, operations, d, n) {
+        return Reading::Refused { number: 6, place };
+    }
+    if let Place::At(place) = bad_choice(choices, measurements(ops), d) {
+        return Reading::Refused { number: 7, place };
+    }
+    let numbers = Numbers {
+        d,
+        n,
+        operations,
+        errors: errors.len() / 5,
+        choices: choices.len(),
+    };
+    Reading::Accepted(numbers)
+}

@@ -1,0 +1,143 @@
+-- Each refusal has a listed number and leaves every buffer unchanged.
+-- Assumes nothing.
+use mathlib.Core.Path.{_≡_, refl}
+use mathlib.Core.Logic.{_≢_}
+use mathlib.Core.Bool.{true}
+use mathlib.Core.List.{List, [], _∷_}
+use Prim.Native.Nat.{ℕ, _<_}
+use native.Mathlib.Omega.{arith}
+use lib.Dec.{leb}
+use lib.ListN.{length}
+use borrow.Author.Tests.{ne-eqb}
+use Rattle.modular.specs.Dimension.{among, listed}
+use Rattle.search.proofs.Search.{unless-cases}
+use Rattle.tableau.specs.Tableau.{sized}
+use Rattle.layer.specs.Layer.{layerNumber, layerLeaves}
+use Rattle.validity.specs.Validity.{valid, testNumber}
+use Rattle.book_body.specs.Body.{ReaderAnswer, refused, accepted}
+use Rattle.book.specs.Book.{readBook}
+use Rattle.book.proofs.Answers.{read-cases}
+use Rattle.book.specs.Decoded.{measurementsIn}
+use Rattle.written_book.specs.Writer.{writeBook}
+use Rattle.written_book.proofs.Writer.{write-cases}
+use Rattle.direct_run.specs.DirectBook.{DirectLeft, directBuffersFit, directByAnswer, directBook}
+use Rattle.frame_run.specs.FrameBook.{Buffers, FrameLeft, frameBuffersFit, frameByAnswer, frameBook}
+use Rattle.shots.specs.Shots.{trayBook}
+use Rattle.shots.proofs.Refusals.{tray-cases}
+use Rattle.book_laws.specs.Refusals.{runNumbers, trayNumbers, writerNumbers, NumbersListed, WriterNamesBody, LayerUnchanged, WriterUnchanged, DirectUnchanged, FrameUnchanged, TrayUnchanged}
+
+layer-listed : (d n : ℕ) (t : List ℕ) → among (layerNumber d n t) (0 ∷ 2 ∷ 3 ∷ 8 ∷ []) ≡ true
+unfolding layerNumber
+layer-listed d n t =
+    unless-cases P (listed d) (λ e. refl) (λ e. unless-cases P (sized n) (λ e. refl) (λ e. unless-cases P (leb _ (length t)) (λ e. refl) (λ e. refl)))
+  where
+    P : ℕ → Type 0
+    P number = among number (0 ∷ 2 ∷ 3 ∷ 8 ∷ []) ≡ true
+
+test-listed : (d n : ℕ) (t : List ℕ) → among (testNumber d n t) (0 ∷ 2 ∷ 3 ∷ 8 ∷ 9 ∷ []) ≡ true
+unfolding testNumber
+test-listed d n t =
+    unless-cases P (listed d) (λ e. refl)
+    (λ e.
+    unless-cases P (sized n) (λ e. refl)
+    (λ e. unless-cases P (leb _ (length t)) (λ e. refl) (λ e. unless-cases P (valid d n t) (λ e. refl) (λ e. refl))))
+  where
+    P : ℕ → Type 0
+    P number = among number (0 ∷ 2 ∷ 3 ∷ 8 ∷ 9 ∷ []) ≡ true
+
+writer-listed : (d n : ℕ) (ops errors choices out : List ℕ) → among (writeBook d n ops errors choices out .number) writerNumbers ≡ true
+writer-listed d n ops errors choices out =
+    write-cases d n ops errors choices out (λ left. among (left .number) writerNumbers ≡ true)
+    refl refl (λ k l. refl) (λ k. refl) (λ k. refl) (λ k. refl) refl (λ h. refl)
+
+direct-listed : (s t results : List ℕ) → among (directBook s t results .number) runNumbers ≡ true
+unfolding directBook directByAnswer
+direct-listed s t results =
+    read-cases (λ x. P (directByAnswer s t results x)) refl refl refl (λ k. refl) (λ k. refl) (λ k. refl) (λ k. refl)
+    (λ d n o e c. unless-cases P (directBuffersFit n (measurementsIn s d n) t results) (λ e. refl) (λ e. unless-cases P (valid d n t) (λ e. refl) (λ e. refl)))
+    s
+  where
+    P : DirectLeft → Type 0
+    P l = among (l .number) runNumbers ≡ true
+
+frame-listed : (s : List ℕ) (lent : Buffers) → among (frameBook s lent .number) runNumbers ≡ true
+unfolding frameBook frameByAnswer
+frame-listed s lent =
+    read-cases (λ x. P (frameByAnswer s lent x)) refl refl refl (λ k. refl) (λ k. refl) (λ k. refl) (λ k. refl)
+    (λ d n o e c.
+    unless-cases P (frameBuffersFit n (measurementsIn s d n) lent) (λ e. refl) (λ e. unless-cases P (valid d n (lent .tableau)) (λ e. refl) (λ e. refl)))
+    s
+  where
+    P : FrameLeft → Type 0
+    P l = among (l .number) runNumbers ≡ true
+
+tray-listed : (s tray t out : List ℕ) → among (trayBook s tray t out .number) trayNumbers ≡ true
+tray-listed s tray t out =
+    tray-cases s tray t out (λ left. among (left .number) trayNumbers ≡ true)
+    refl refl refl (λ k. refl) (λ k. refl) (λ k. refl) (λ k. refl) refl refl refl (λ d n o h. refl)
+
+pub numbers-listed : NumbersListed
+numbers-listed =
+    record { layer = layer-listed; test = test-listed; writer = writer-listed; direct = direct-listed; frame = frame-listed; tray = tray-listed }
+
+pub layer-unchanged : LayerUnchanged
+unfolding layerLeaves
+layer-unchanged d n t h = rw (ne-eqb (layerNumber d n t) 0 h)
+
+pub writer-names-body : WriterNamesBody
+writer-names-body d n ops errors choices out =
+    write-cases d n ops errors choices out (λ left. left .number ≡ 4 → left .place < 3)
+    (λ e. omega arith)
+    (λ e. omega arith)
+    (λ k l e. l)
+    (λ k e. absurd (omega arith))
+    (λ k e. absurd (omega arith))
+    (λ k e. absurd (omega arith))
+    (λ e. omega arith)
+    (λ h e. absurd (omega arith))
+
+pub writer-unchanged : WriterUnchanged
+writer-unchanged d n ops errors choices out =
+    write-cases d n ops errors choices out (λ left. left .number ≢ 0 → left .out ≡ out)
+    (λ h. refl) (λ h. refl) (λ k l h. refl) (λ k h. refl) (λ k h. refl) (λ k h. refl) (λ h. refl) (λ e h. absurd (h refl))
+
+pub direct-unchanged : DirectUnchanged
+unfolding directBook directByAnswer
+direct-unchanged s t results = go (readBook s)
+  where
+    P : DirectLeft → Type 0
+    P l = l .number ≢ 0 → (l .tableau ≡ t) × (l .results ≡ results)
+
+    go : (x : ReaderAnswer) → P (directByAnswer s t results x)
+    go (refused number place) = λ h. (refl, refl)
+    go (accepted d n operations errors choices) =
+        unless-cases P (directBuffersFit n (measurementsIn s d n) t results) (λ e h. (refl, refl))
+        (λ e. unless-cases P (valid d n t) (λ e h. (refl, refl)) (λ e h. absurd (h refl)))
+
+pub frame-unchanged : FrameUnchanged
+unfolding frameBook frameByAnswer
+frame-unchanged s lent = go (readBook s)
+  where
+    P : FrameLeft → Type 0
+    P l = l .number ≢ 0 → (l .left ≡ lent) × (l .verdict ≡ 0)
+
+    go : (x : ReaderAnswer) → P (frameByAnswer s lent x)
+    go (refused number place) = λ h. (refl, refl)
+    go (accepted d n operations errors choices) =
+        unless-cases P (frameBuffersFit n (measurementsIn s d n) lent) (λ e h. (refl, refl))
+        (λ e. unless-cases P (valid d n (lent .tableau)) (λ e h. (refl, refl)) (λ e h. absurd (h refl)))
+
+pub tray-unchanged : TrayUnchanged
+tray-unchanged s tray t out =
+    tray-cases s tray t out (λ left. left .number ≢ 0 → (left .out ≡ out) × (left .shifted ≡ 0))
+    (λ h. (refl, refl))
+    (λ h. (refl, refl))
+    (λ h. (refl, refl))
+    (λ k h. (refl, refl))
+    (λ k h. (refl, refl))
+    (λ k h. (refl, refl))
+    (λ k h. (refl, refl))
+    (λ h. (refl, refl))
+    (λ h. (refl, refl))
+    (λ h. (refl, refl))
+    (λ d n o e h. absurd (h refl))

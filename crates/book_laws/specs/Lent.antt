@@ -1,0 +1,19 @@
+-- What a direct run and a frame run are lent where they are compared.
+use mathlib.Core.Path.{_≡_}
+use mathlib.Core.Bool.{true}
+use mathlib.Core.List.{List}
+use Prim.Native.Nat.{ℕ, _+_, _*_, _<_, _≤_}
+use lib.ListN.{length, getD}
+use Rattle.validity.specs.Validity.{valid}
+use Rattle.frame_run.specs.FrameBook.{Buffers}
+
+-- A start tableau valid for d and n, each run with its own copy of it, and buffers long enough. Other bytes may differ.
+pub record Lent (d n measurements : ℕ) (t results : List ℕ) (lent : Buffers) : Type 0 where
+  pub start-room : 2 * n * (2 * n + 1) ≤ length (lent .tableau)
+  pub start-valid : valid d n (lent .tableau) ≡ true
+  pub copy-room : 2 * n * (2 * n + 1) ≤ length t
+  pub copied : (i : ℕ) → i < 2 * n * (2 * n + 1) → getD t i 0 ≡ getD (lent .tableau) i 0
+  pub direct-results : 2 * measurements ≤ length results
+  pub frame-results : 2 * measurements ≤ length (lent .results)
+  pub shifts-room : 2 * n ≤ length (lent .shifts)
+  pub frame-room : 2 * n ≤ length (lent .frame)

@@ -1,0 +1,60 @@
+-- Refusals: the numbers of each call, and that each refusal leaves every buffer unchanged. The statements are proved in proofs/.
+use mathlib.Core.Path.{_≡_}
+use mathlib.Core.Bool.{true}
+use mathlib.Core.Logic.{_≢_}
+use mathlib.Core.List.{List, [], _∷_}
+use Prim.Native.Nat.{ℕ, _<_}
+use Rattle.modular.specs.Dimension.{among}
+use Rattle.layer.specs.Layer.{layerNumber, layerLeaves}
+use Rattle.validity.specs.Validity.{testNumber}
+use Rattle.written_book.specs.Writer.{writeBook}
+use Rattle.direct_run.specs.DirectBook.{directBook}
+use Rattle.frame_run.specs.FrameBook.{Buffers, frameBook}
+use Rattle.shots.specs.Shots.{trayBook}
+
+-- Either run: 1 to 7, then 8, then 9; 0 is success.
+abbrev pub runNumbers : List ℕ
+runNumbers = 0 ∷ 1 ∷ 2 ∷ 3 ∷ 4 ∷ 5 ∷ 6 ∷ 7 ∷ 8 ∷ 9 ∷ []
+
+-- A tray: as a run, and 11.
+abbrev pub trayNumbers : List ℕ
+trayNumbers = 0 ∷ 1 ∷ 2 ∷ 3 ∷ 4 ∷ 5 ∷ 6 ∷ 7 ∷ 8 ∷ 9 ∷ 11 ∷ []
+
+-- The writer: what the reader would refuse, but for 1, since a written book has its header; then 8.
+abbrev pub writerNumbers : List ℕ
+writerNumbers = 0 ∷ 2 ∷ 3 ∷ 4 ∷ 5 ∷ 6 ∷ 7 ∷ 8 ∷ []
+
+-- No call returns a number that is not in its list.
+pub record NumbersListed : Type 0 where
+  pub layer : (d n : ℕ) (t : List ℕ) → among (layerNumber d n t) (0 ∷ 2 ∷ 3 ∷ 8 ∷ []) ≡ true
+  pub test : (d n : ℕ) (t : List ℕ) → among (testNumber d n t) (0 ∷ 2 ∷ 3 ∷ 8 ∷ 9 ∷ []) ≡ true
+  pub writer : (d n : ℕ) (ops errors choices out : List ℕ) → among (writeBook d n ops errors choices out .number) writerNumbers ≡ true
+  pub direct : (s t results : List ℕ) → among (directBook s t results .number) runNumbers ≡ true
+  pub frame : (s : List ℕ) (lent : Buffers) → among (frameBook s lent .number) runNumbers ≡ true
+  pub tray : (s tray t out : List ℕ) → among (trayBook s tray t out .number) trayNumbers ≡ true
+
+-- The writer's 4 names one of the three bodies: the end of a written book is never wrong.
+abbrev pub WriterNamesBody : Type 0
+WriterNamesBody = (d n : ℕ) (ops errors choices out : List ℕ) → writeBook d n ops errors choices out .number ≡ 4
+    → writeBook d n ops errors choices out .place < 3
+
+-- Each refusal leaves every buffer unchanged; the frame run's verdict and a tray's third number are then 0. The
+-- tableau test writes no buffer.
+abbrev pub LayerUnchanged : Type 0
+LayerUnchanged = (d n : ℕ) (t : List ℕ) → layerNumber d n t ≢ 0 → layerLeaves d n t ≡ t
+
+abbrev pub WriterUnchanged : Type 0
+WriterUnchanged = (d n : ℕ) (ops errors choices out : List ℕ) → writeBook d n ops errors choices out .number ≢ 0
+    → writeBook d n ops errors choices out .out ≡ out
+
+abbrev pub DirectUnchanged : Type 0
+DirectUnchanged = (s t results : List ℕ) → directBook s t results .number ≢ 0
+    → (directBook s t results .tableau ≡ t) × (directBook s t results .results ≡ results)
+
+abbrev pub FrameUnchanged : Type 0
+FrameUnchanged = (s : List ℕ) (lent : Buffers) → frameBook s lent .number ≢ 0
+    → (frameBook s lent .left ≡ lent) × (frameBook s lent .verdict ≡ 0)
+
+abbrev pub TrayUnchanged : Type 0
+TrayUnchanged = (s tray t out : List ℕ) → trayBook s tray t out .number ≢ 0
+    → (trayBook s tray t out .out ≡ out) × (trayBook s tray t out .shifted ≡ 0)

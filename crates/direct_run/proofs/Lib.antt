@@ -1,0 +1,4 @@
+-- Worked cases, and what the proofs of several functions use.
+pub mod Cases
+pub mod Answers
+pub mod Books

@@ -1,0 +1,2 @@
+pub mod CarryInputs
+pub mod Shifted

@@ -1,0 +1,80 @@
+-- `frame_run::run_in` meets its contract.
+-- Assumes nothing.
+use mathlib.Core.Path.{ap, _∙_}
+use native.Mathlib.Omega.{arith}
+use denote.Ref.{now}
+use lib.ListN.{length}
+use Rattle.modular.proofs.Listed.{dimension}
+use Rattle.validity.proofs.Exactly.{valid-tableau}
+use Rattle.circuit.specs.Circuit.{measurementCount}
+use Rattle.book.specs.Decoded.{operationsOf, errorsOf}
+use Rattle.runs.proofs.Frames.{no-frame}
+use Rattle.run_laws.proofs.Books.{without-errors}
+use Rattle.frame_run.specs.FrameBook.{buffersOf}
+use Rattle.frame_run.proofs.Ends.{run-ends}
+use borrow.Author.Needs.{needs}
+use Rattle.frame_run.proofs.run_in.Statement.{statement}
+use Rattle.frame_run.proofs.run_in.Tie as tie
+
+run-requires : tie.Need-run-requires
+run-requires c κs =
+    let p = c .before .before .before .before .before .before .before .before .before .before .pre in
+    (p .0 .dimension, p .0 .qudits, without-errors (p .0 .lists), p .1 .results, p .3)
+
+carry-requires : tie.Need-carry-requires
+carry-requires c κs =
+    let s = c .before .before .before .before .before .before .before .before .before .before .before .before .before .before .before .before .before in
+    let g = s .pre .0 in
+    let dim = dimension (s .args .d) (g .dimension) in (
+      record {
+        dimension = g .dimension;
+        operations = g .lists .operations;
+        errors-in-order = g .lists .errors-in-order;
+        room = omega (arith, s .pre .1 .results, g .lists .one-each);
+      },
+      rw (s .pre .2) (no-frame (s .args .d) (s .args .n) (omega arith) .powers),
+    )
+
+finish-requires : tie.Need-finish-requires
+finish-requires c κs =
+    let v = c .before .before .before .before .before .before .before .before in
+    let r = v .before .before .before .before .before .before .before in
+    let s = r .before .before .before .before .before .before .before .before .before .before .before in
+    let dim = dimension (s .args .d) (s .pre .0 .dimension) in (
+      record { low = dim .low; high = dim .high; qudits = s .pre .0 .qudits },
+      s .pre .1 .shifts,
+      s .pre .1 .frame,
+      valid-tableau _ _ _ (r .run .ensures .2),
+      record {
+        powers = v .carry .ensures .2;
+        len = v .carry .ensures .3 ∙ ap length (s .pre .2) ∙ no-frame (s .args .d) (s .args .n) (omega arith) .len;
+      },
+    )
+
+returns : tie.Need-returns
+returns c =
+    let f = c .before .before .before .before .before .before in
+    let v = f .before .before .before .before .before .before .before .before .before in
+    let r = v .before .before .before .before .before .before .before in
+    let s = r .before .before .before .before .before .before .before .before .before .before .before in
+    let a = s .args in
+    let ops = operationsOf (a .d) (a .n) (now (a .ops)) in
+    let after = v .carry .ensures in
+    let e = f .finish .ensures in
+    run-ends (a .d) (a .n) ops (errorsOf (now (a .errors))) (now (a .choices)) (measurementCount ops)
+    (buffersOf (now (a .t)) (now (a .results)) (now (a .shifts)) (now (a .out)))
+    (omega (arith, s .pre .1 .results, s .pre .0 .lists .one-each)) (r .run .ensures .1) (r .run .ensures .0) (s .pre .2) (after .0) (after .1) (e .0) (e .1) (e .2) (e .3)
+
+pub run-in-spec : {M : Type 1} → statement M
+run-in-spec =
+    tie.close
+    (tie.spec
+    run-requires
+    carry-requires
+    finish-requires
+    (λ c. search needs)
+    (λ c. search needs)
+    (λ c. search needs)
+    (λ c. search needs)
+    (λ c. search needs)
+    returns)

@@ -1,0 +1,5 @@
+-- What the proof of `measure` and those of the runs use.
+pub mod Fits
+pub mod Room
+pub mod Progress
+pub mod Supply

@@ -1,0 +1,2 @@
+pub mod FreeMeasurement
+pub mod Changing

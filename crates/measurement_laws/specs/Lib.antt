@@ -1,0 +1,2 @@
+pub mod Stabilizers
+pub mod Measurement

@@ -1,0 +1,349 @@
+-- The promises: every theorem that specs/ states, in the order of the three demands, each as a term of the statement's own type. A
+-- proof that is gone, or that does not fit its statement, stops the check here. What a statement says in full stands in the file that it is
+-- imported from; docs/READING-LIST.md names the definitions it rests on.
+-- Assumes nothing.
+use Rattle.inverse.specs.Rule.{InverseRight}
+use Rattle.row_laws.specs.Laws.{Associative, Neutral, PowerZero, PowerOne, PowersAdd, PowerModulo, PairingLeft, PairingRight, PairingPower, PairingSelf, PairingOpposite, Exchange, Commute}
+use Rattle.conjugation.specs.Conjugation.{RowSpelled, GateConjugates, GateDetermined, GateKeepsPairing, GateOnFrame, ErrorConjugates, ErrorPairs, ErrorOnFrame, ErrorFramePairs}
+use Rattle.conjugation.specs.Repeated.{RowRepeats, RowsRepeat, FrameRepeats}
+use Rattle.validity.specs.Validity.{ValidExactly}
+use Rattle.validity_laws.specs.Keeping.{ZeroValid, GateKeepsValid, ErrorKeepsValid}
+use Rattle.measurement_laws.specs.Measurement.{AllDifferent, CollapseKeepsValid, CertainIsZ, CertainExactly, OneMember, CollapseGenerates}
+use Rattle.book_entries.specs.Entry.{DecodedExactly}
+use Rattle.book.specs.Decoded.{AcceptedMeans}
+use Rattle.written_book.specs.Written.{ReadsWritten, BodiesBack, OnlyBook}
+use Rattle.written_book.specs.Writer.{Rewritten, FillsOnlyBook}
+use Rattle.written_book.specs.Errorless.{ErrorlessAccepted}
+use Rattle.tray.specs.Tray.{OnlyTray}
+use Rattle.run_laws.specs.Carrying.{StepKeepsValid, RunKeepsValid, FrameKeepsValid, RunsAgree, RunsAgreeFrom, FrameIsClean, CleanRows, CleanLists}
+use Rattle.shots.specs.Clean.{CleanServes}
+use Rattle.book_laws.specs.Agreement.{SecondAccepted, Demand3}
+use Rattle.book_laws.specs.Clean.{CleanExactly, WithoutErrors}
+use Rattle.book_laws.specs.LeavesValid.{DirectLeavesValid, FrameLeavesValid}
+use Rattle.book_laws.specs.Refusals.{NumbersListed, WriterNamesBody, LayerUnchanged, WriterUnchanged, DirectUnchanged, FrameUnchanged, TrayUnchanged}
+use Rattle.book_laws.specs.Tray.{ShotsAreFrameRuns, TrayKeepsRest, TrayCounts, OwnErrorsUnused}
+use Rattle.book_laws.proofs.Refusals as refusals
+use Rattle.book_laws.proofs.LeavesValid as left
+use Rattle.book_laws.proofs.Second as second
+use Rattle.book_laws.proofs.Demand3 as whole
+use Rattle.book_laws.proofs.Clean as verdict
+use Rattle.book_laws.proofs.WithoutErrors as errorless
+use Rattle.book_laws.proofs.Tray as trays
+use Rattle.book_entries.proofs.Decoding as entries
+use Rattle.book.proofs.Meaning as meaning
+use Rattle.written_book.proofs.Read as read
+use Rattle.written_book.proofs.Only as only
+use Rattle.written_book.proofs.Writer as writer
+use Rattle.written_book.proofs.Errorless as taken-out
+use Rattle.tray.proofs.Only as table
+use Rattle.inverse.proofs.Rule as inverses
+use Rattle.row_laws.proofs.Laws as rows
+use Rattle.conjugation.proofs.Determined as determined
+use Rattle.conjugation.proofs.Gates as gates
+use Rattle.conjugation.proofs.Tables as tables
+use Rattle.conjugation.proofs.Errors as errors
+use Rattle.conjugation.proofs.Repeated as repeated
+use Rattle.validity.proofs.Exactly as exactly
+use Rattle.validity_laws.proofs.Keeping as kept
+use Rattle.measurement_laws.proofs.Combination as combination
+use Rattle.measurement_laws.proofs.Certain as certain
+use Rattle.measurement_laws.proofs.Free as free
+use Rattle.measurement_laws.proofs.Generates as generates
+use Rattle.run_laws.proofs.Sound as steps
+use Rattle.run_laws.proofs.Clean as clean
+use Rattle.run_laws.proofs.Buffers as buffers
+use Rattle.run_laws.proofs.Fold as fold
+use Rattle.run_laws.proofs.Verdict as rows-verdict
+use Rattle.shots.proofs.Clean as serves
+
+-- Demand 1: every entry point does its work or refuses with a listed number, and a refusal leaves what the list says. (That each exported
+-- function does so for every input is its contract, in crates/cagvost/src/lib.rt.)
+
+-- No call returns a number that is not in its list.
+pub numbers-listed : NumbersListed
+numbers-listed = refusals.numbers-listed
+
+-- The writer's 4 names one of the three bodies.
+pub writer-names-body : WriterNamesBody
+writer-names-body = refusals.writer-names-body
+
+-- A refusal of the layer leaves the tableau unchanged.
+pub layer-unchanged : LayerUnchanged
+layer-unchanged = refusals.layer-unchanged
+
+-- A refusal of the direct run leaves tableau and results unchanged.
+pub direct-unchanged : DirectUnchanged
+direct-unchanged = refusals.direct-unchanged
+
+-- A refusal of the frame run leaves all four buffers unchanged, and its verdict is 0.
+pub frame-unchanged : FrameUnchanged
+frame-unchanged = refusals.frame-unchanged
+
+-- A refusal of the writer leaves the buffer unchanged.
+pub writer-unchanged : WriterUnchanged
+writer-unchanged = refusals.writer-unchanged
+
+-- A refusal of a tray leaves the buffer unchanged, and its third number is 0.
+pub tray-unchanged : TrayUnchanged
+tray-unchanged = refusals.tray-unchanged
+
+-- Four bytes are an operation exactly if they are its bytes and its operands are in range.
+pub decoded-exactly : DecodedExactly
+decoded-exactly = entries.decoded-exactly
+
+-- The numbers of an accepted book are those of its lists, and the lists are what 2, 3 and 5 to 7 let through.
+pub accepted-means : AcceptedMeans
+accepted-means = meaning.accepted-means
+
+-- The reader says of a written book what the tests say of d, n and the bodies.
+pub reads-written : ReadsWritten
+reads-written = read.reads-written
+
+-- An accepted written book hands its three bodies back.
+pub bodies-back : BodiesBack
+bodies-back = read.bodies-back
+
+-- It is the only book of bytes that is accepted with d, n and these bodies.
+pub only-book : OnlyBook
+only-book = only.only-book
+
+-- An accepted book comes out byte for byte when its own bodies are written again.
+pub rewritten : Rewritten
+rewritten = writer.rewritten
+
+-- A successful call fills the buffer with that book alone, and keeps every byte past it.
+pub fills-only-book : FillsOnlyBook
+fills-only-book = writer.fills-only-book
+
+-- No two trays of bytes have the same shots.
+pub only-tray : OnlyTray
+only-tray = table.only-tray
+
+-- Demand 2: each gate acts as its published conjugation table says, an error as conjugation, a measurement as the stabilizer set says.
+
+-- The inverse of u times u leaves 1; it is 0 for 0 and from d up.
+pub inverse-right : InverseRight
+inverse-right = inverses.inverse-right
+
+-- The product is associative.
+pub associative : Associative
+associative = rows.associative
+
+-- ω^0 times a row is the row.
+pub neutral : Neutral
+neutral = rows.neutral
+
+-- Power 0 is ω^0.
+pub power-zero : PowerZero
+power-zero = rows.power-zero
+
+-- Power 1 is the row itself.
+pub power-one : PowerOne
+power-one = rows.power-one
+
+-- Powers of a row add.
+pub powers-add : PowersAdd
+powers-add = rows.powers-add
+
+-- A power depends on its exponent modulo d alone.
+pub power-modulo : PowerModulo
+power-modulo = rows.power-modulo
+
+-- The pairing is additive on the left.
+pub pairing-left : PairingLeft
+pairing-left = rows.pairing-left
+
+-- The pairing is additive on the right.
+pub pairing-right : PairingRight
+pairing-right = rows.pairing-right
+
+-- The exponent of a power comes out of the pairing as a factor.
+pub pairing-power : PairingPower
+pairing-power = rows.pairing-power
+
+-- A row paired with itself gives 0.
+pub pairing-self : PairingSelf
+pairing-self = rows.pairing-self
+
+-- Exchanged rows pair to the negative.
+pub pairing-opposite : PairingOpposite
+pairing-opposite = rows.pairing-opposite
+
+-- v w is ω to their pairing times w v.
+pub exchange : Exchange
+exchange = rows.exchange
+
+-- Two rows commute exactly if their pairing is 0.
+pub commute : Commute
+commute = rows.commute
+
+-- Every row is the product that it means, phase included.
+pub row-spelled : RowSpelled
+row-spelled = determined.row-spelled
+
+-- A gate keeps the product with its phase, and sends ω, X and Z where the published tables say.
+pub gate-conjugates : GateConjugates
+gate-conjugates = tables.gate-conjugates
+
+-- It is the only map that does, on every row.
+pub gate-determined : GateDetermined
+gate-determined = determined.gate-determined
+
+-- A gate keeps the pairing.
+pub gate-keeps-pairing : GateKeepsPairing
+gate-keeps-pairing = gates.gate-keeps-pairing
+
+-- A gate maps a frame as it maps the powers of a row.
+pub gate-on-frame : GateOnFrame
+gate-on-frame = gates.gate-on-frame
+
+-- An entry that applies its gate k times does to a row what k single applications do.
+pub row-repeats : RowRepeats
+row-repeats = repeated.row-repeats
+
+-- The same for all rows of a tableau.
+pub rows-repeat : RowsRepeat
+rows-repeat = repeated.rows-repeat
+
+-- The same for a frame.
+pub frame-repeats : FrameRepeats
+frame-repeats = repeated.frame-repeats
+
+-- Error times row is the row after the error, times error.
+pub error-conjugates : ErrorConjugates
+error-conjugates = errors.error-conjugates
+
+-- An error adds to the phase the pairing of the error with the row.
+pub error-pairs : ErrorPairs
+error-pairs = errors.error-pairs
+
+-- An error adds its powers to a frame.
+pub error-on-frame : ErrorOnFrame
+error-on-frame = errors.error-on-frame
+
+-- So the frame's pairing with any row gains the error's.
+pub error-frame-pairs : ErrorFramePairs
+error-frame-pairs = errors.error-frame-pairs
+
+-- What the tableau test computes holds exactly if the tableau is valid.
+pub valid-exactly : ValidExactly
+valid-exactly = exactly.valid-exactly
+
+-- The zero tableau is valid.
+pub zero-valid : ZeroValid
+zero-valid = kept.zero-valid
+
+-- Each gate keeps a tableau valid.
+pub gate-keeps-valid : GateKeepsValid
+gate-keeps-valid = kept.gate-keeps-valid
+
+-- Each error keeps it valid.
+pub error-keeps-valid : ErrorKeepsValid
+error-keeps-valid = kept.error-keeps-valid
+
+-- Each free measurement keeps it valid.
+pub collapse-keeps-valid : CollapseKeepsValid
+collapse-keeps-valid = free.collapse-keeps-valid
+
+-- Over lists: each step of the direct run keeps a tableau valid.
+pub step-keeps-valid : StepKeepsValid
+step-keeps-valid = steps.step-keeps-valid
+
+-- Over lists: so does the whole direct run.
+pub run-keeps-valid : RunKeepsValid
+run-keeps-valid = steps.run-keeps-valid
+
+-- Over lists: so does the frame run, from any frame.
+pub frame-keeps-valid : FrameKeepsValid
+frame-keeps-valid = clean.frame-keeps-valid
+
+-- What a direct run of a book leaves passes the tableau test.
+pub direct-leaves-valid : DirectLeavesValid
+direct-leaves-valid = left.direct-leaves-valid
+
+-- What a frame run of a book leaves passes the tableau test.
+pub frame-leaves-valid : FrameLeavesValid
+frame-leaves-valid = left.frame-leaves-valid
+
+-- The stabilizer set has d^n members: each settles its exponents.
+pub all-different : AllDifferent
+all-different = combination.all-different
+
+-- In a valid tableau the product of a certain measurement is Z on that qudit with some phase, so that nothing is left for 10 to refuse.
+pub certain-is-z : CertainIsZ
+certain-is-z = certain.certain-is-z
+
+-- A measurement is certain exactly if the stabilizer set holds a power of the phase times Z on that qudit, with the outcome that it fixes.
+pub certain-exactly : CertainExactly
+certain-exactly = certain.certain-exactly
+
+-- That member is the only one with its powers.
+pub one-member : OneMember
+one-member = certain.one-member
+
+-- After a free one the new set is generated by the old members that commute with that Z, and the measured one.
+pub collapse-generates : CollapseGenerates
+collapse-generates = generates.collapse-generates
+
+-- Demand 3: a Weyl error, wherever it strikes, may be carried to the end.
+
+-- For every accepted book, valid start tableau and buffers long enough, the direct run of the second book and the frame run of the first
+-- end without a refusal and are alike in the number of measurements, every result, every mark and every byte of the tableau.
+pub demand3 : Demand3
+demand3 = whole.demand3
+
+-- The second book is accepted, and differs in its choices alone, each raised.
+pub second-accepted : SecondAccepted
+second-accepted = second.second-accepted
+
+-- Over lists: the frame run is the run without errors and its frame carried to the end.
+pub frame-is-clean : FrameIsClean
+frame-is-clean = clean.frame-is-clean
+
+-- Over lists: direct run of the raised choices and frame run of the choices, each on its own copy of a valid tableau, agree.
+pub runs-agree : RunsAgree
+runs-agree = buffers.runs-agree
+
+-- Over lists: the same from any frame F, if the direct run starts from the rows shifted by F.
+pub runs-agree-from : RunsAgreeFrom
+runs-agree-from = fold.runs-agree-from
+
+-- A frame shifts no stabilizer exactly if the shifted rows have the same stabilizer set.
+pub clean-rows : CleanRows
+clean-rows = rows-verdict.clean-rows
+
+-- Over lists, the verdict is clean exactly if the run without errors ends with the same stabilizer set.
+pub clean-lists : CleanLists
+clean-lists = clean.clean-lists
+
+-- A book with its errors taken out is accepted, and has the same operations and choices.
+pub errorless-accepted : ErrorlessAccepted
+errorless-accepted = taken-out.errorless-accepted
+
+-- For whole books, the verdict is clean exactly if the book without its errors ends with the same stabilizer set.
+pub clean-exactly : CleanExactly
+clean-exactly = verdict.clean-exactly
+
+-- Without errors both runs are alike, and the verdict is clean.
+pub without-errors : WithoutErrors
+without-errors = errorless.without-errors
+
+-- One run without errors serves every shot.
+pub clean-serves : CleanServes
+clean-serves = serves.clean-serves
+
+-- Each shot's bytes are the verdict and the results of the frame run of its own book.
+pub shots-are-frame-runs : ShotsAreFrameRuns
+shots-are-frame-runs = trays.shots-are-frame-runs
+
+-- Bytes past the shots are kept.
+pub tray-keeps-rest : TrayKeepsRest
+tray-keeps-rest = trays.tray-keeps-rest
+
+-- Each shot is counted once, by its verdict.
+pub tray-counts : TrayCounts
+tray-counts = trays.tray-counts
+
+-- The book's own errors make no difference.
+pub own-errors-unused : OwnErrorsUnused
+own-errors-unused = trays.own-errors-unused

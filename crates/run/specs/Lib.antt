@@ -1,5 +1,0 @@
-pub mod Run
-pub mod Direct
-pub mod Frame
-pub mod Raised
-pub mod Carry

@@ -1,1 +1,0 @@
-// The two runs over decoded lists; no code.

@@ -1,0 +1,109 @@
+-- At every step the direct run's rows are the frame run's rows, shifted by the frame. So both end alike.
+-- Assumes nothing.
+use mathlib.Core.Path.{_≡_, refl, ap, _∙_}
+use mathlib.Core.List.{List}
+use Prim.Native.Nat.{ℕ, zero, suc, _+_, _%_, _≤_, _<_}
+use native.Mathlib.Nat.{le-refl}
+use native.Mathlib.Omega.{arith}
+use lib.ListN.{length, getD}
+use Rattle.modular.specs.Dimension.{Dimension}
+use Rattle.row.specs.Row.{xOf}
+use Rattle.operation.specs.declared.Operation.{Operation}
+use Rattle.operation.specs.declared.WeylError.{WeylError}
+use Rattle.circuit.specs.Circuit.{opAt, Kind, gate, measures, kind, measured, Accepted}
+use Rattle.validity.specs.Validity.{Valid}
+use Rattle.validity.proofs.Exactly.{valid-tableau}
+use Rattle.measurement.specs.declared.Look.{Look}
+use Rattle.measurement.specs.Look.{look}
+use Rattle.validity_laws.proofs.Keeping.{gate-keeps-valid}
+use Rattle.measurement_laws.proofs.Free.{collapse-keeps-valid}
+use Rattle.runs.specs.Run.{stepsFrom}
+use Rattle.runs.specs.Direct.{State, directLook, directKind, directErrors, directStep, directRun}
+use Rattle.runs.specs.Frame.{Frame, FrameState, shiftRows, frameLook, frameKind, frameErrors, frameStep, frameSteps, frameLeaves, frameRunFrom}
+use Rattle.runs.specs.Raised.{carryBy, frameBefore, carriedFrame, raised}
+use Rattle.runs.proofs.Frames.{gate-frame, errors-on-frame}
+use Rattle.runs.proofs.Shifts.{before, shifts-at, raised-at}
+use Rattle.run_laws.specs.Carrying.{Agree, RunsAgreeFrom}
+use Rattle.run_laws.proofs.Rows.{shifted-gate, shifted-errors, shifted-collapse}
+use Rattle.run_laws.proofs.Looks.{Both, free, certain, both}
+use Rattle.run_laws.proofs.Books.{qudit-in, choice-in, has-choice}
+
+-- both runs, with the frame F
+pub data ShiftedState (d n : ℕ) : List ℕ → State → FrameState → Type 0 where
+  shifted-state : {F : List ℕ} (t results : List ℕ) → Frame d n F → Valid d n t
+      → ShiftedState d n F (record { rows = shiftRows d n F t; results = results }) (record { rows = t; results = results; frame = F })
+
+module _ (d n : ℕ) (dim : Dimension d) (ops : List Operation) (errors : List WeylError) (choices second : List ℕ) (ac : Accepted d n ops errors choices) where
+  positive : 0 < d
+  positive = omega (arith, dim .low)
+
+  -- The direct run's choice for operation k is the frame run's, raised by the frame F.
+  abbrev Raises : ℕ → List ℕ → Type 0
+  Raises k F = (q : ℕ) → kind (opAt ops k) ≡ measures q → getD second (measured ops k) 0 ≡ (getD choices (measured ops k) 0 + xOf F q) % d
+
+  kind-alike : (k : ℕ) → k < length ops → (F t results : List ℕ) → Frame d n F → Valid d n t → Raises k F → (x : Kind) → kind (opAt ops k) ≡ x
+      → ShiftedState d n (carryBy d n ops errors k x F)
+      (directKind d n second (measured ops k) (record { rows = shiftRows d n F t; results = results }) (opAt ops k) x)
+      (frameKind d n choices (measured ops k) (record { rows = t; results = results; frame = F }) (opAt ops k) x)
+  unfolding directKind frameKind directLook frameLook carryBy
+  kind-alike k l F t results f ok up gate e =
+      rw (shifted-gate d n dim F t (f .powers) (valid-tableau d n t ok) (opAt ops k) (ac .operations k l))
+      (shifted-state _ results (gate-frame d n positive (opAt ops k) F (ac .operations k l) f) (gate-keeps-valid d n dim (opAt ops k) (ac .operations k l) t ok))
+  kind-alike k l F t results f ok up (measures q) e = by (look d n t q) (look d n (shiftRows d n F t) q) (both d n dim t ok F q lq)
+    where
+      lq : q < n
+      lq = qudit-in ac k q l e
+
+      by : (a b : Look) → Both d n t q F a b
+          → ShiftedState d n F (directLook d n second (measured ops k) q (record { rows = shiftRows d n F t; results = results }) b)
+          (frameLook d n choices (measured ops k) q (record { rows = t; results = results; frame = F }) a)
+      by a b (free i li y) =
+          rw (up q e, shifted-collapse d n q i (getD choices (measured ops k) 0) (omega (arith, dim .low)) lq F t (valid-tableau d n t ok) li)
+          (shifted-state _ _ f (collapse-keeps-valid d n dim t ok q i _ lq (choice-in ac k q l e) y))
+      by a b (certain outcome) = shifted-state t _ f ok
+
+  step-alike : (k : ℕ) → k < length ops → {F : List ℕ} {A : State} {B : FrameState} → Raises k (frameBefore d n ops errors k F) → ShiftedState d n F A B
+      → ShiftedState d n (carryBy d n ops errors k (kind (opAt ops k)) (frameBefore d n ops errors k F))
+      (directStep d n ops errors second k A)
+      (frameStep d n ops errors choices k B)
+  unfolding directStep frameStep directErrors frameErrors frameBefore
+  step-alike k l {F} up (shifted-state t results f ok) =
+      rw (shifted-errors d n dim errors (ac .errors-in-order .each) k F t f (valid-tableau d n t ok) (length errors) (le-refl (length errors)))
+      (kind-alike k l _ t results (errors-on-frame d n positive errors k F f (length errors)) ok up (kind (opAt ops k)) refl)
+
+  -- from any operation, and any frame
+  pub steps-alike : (from : ℕ) (F t results : List ℕ) → Frame d n F → Valid d n t → (count : ℕ) → from + count ≤ length ops
+      → ((i : ℕ) → i < count → Raises (from + i) (before d n ops errors from F i))
+      → ShiftedState d n (carriedFrame d n ops errors from F count)
+      (stepsFrom (directStep d n ops errors second) from (record { rows = shiftRows d n F t; results = results }) count)
+      (stepsFrom (frameStep d n ops errors choices) from (record { rows = t; results = results; frame = F }) count)
+  unfolding stepsFrom carriedFrame
+  steps-alike from F t results f ok zero l up = shifted-state t results f ok
+  steps-alike from F t results f ok (suc m) l up =
+      step-alike (from + m) (omega arith) (up m (omega arith))
+      (steps-alike from F t results f ok m (omega arith) (λ i k. up i (omega arith)))
+
+  -- the errors after all operations
+  end-alike : (m : ℕ) (shifts frame : List ℕ) {F : List ℕ} {A : State} {B : FrameState} → ShiftedState d n F A B
+      → Agree n m (directErrors d n ops errors second (length ops) A) (frameLeaves d n ops errors choices shifts frame (frameErrors d n ops errors choices (length ops) B))
+  unfolding frameLeaves directErrors frameErrors
+  end-alike m shifts frame {F} (shifted-state t results f ok) =
+      rw (shifted-errors d n dim errors (ac .errors-in-order .each) (length ops) F t f (valid-tableau d n t ok) (length errors) (le-refl (length errors)))
+      (record { tableau = λ i l. refl; results = λ i l. refl })
+
+-- The raised choices are so.
+raises : {d n : ℕ} {ops : List Operation} {errors : List WeylError} {choices : List ℕ} → (dim : Dimension d) (ac : Accepted d n ops errors choices) (F : List ℕ) (i : ℕ)
+    → i < length ops
+    → Raises d n dim ops errors choices (raised d n ops errors F choices) ac (0 + i) (before d n ops errors 0 F i)
+unfolding measured
+raises {d} {n} {ops} {errors} {choices} dim ac F i l q e =
+    let j = measured ops (0 + i) in
+    raised-at d n ops errors F choices j (has-choice ac (0 + i) q (omega arith) e)
+    ∙ ap (λ (x : ℕ). (getD choices j 0 + x) % d) (shifts-at d n ops errors 0 F (length ops) i j q l e (omega arith))
+
+pub runs-agree-from : RunsAgreeFrom
+unfolding directRun frameRunFrom frameSteps
+runs-agree-from d n dim ops errors choices F ac powers len t results shifts frame ok =
+    let second = raised d n ops errors F choices in
+    end-alike d n dim ops errors choices second ac _ shifts frame
+    (steps-alike d n dim ops errors choices second ac 0 F t results (record { powers = powers; len = len }) ok (length ops) (omega arith) (raises dim ac F))

@@ -1,0 +1,84 @@
+-- Worked runs, for d = 3. Rows are the X powers, the Z powers and the phase.
+-- Assumes nothing.
+use mathlib.Core.Path.{_≡_, refl}
+use mathlib.Core.List.{List, [], _∷_}
+use Prim.Native.Nat.{ℕ}
+use Rattle.modular.specs.Dimension.{inverse, powerOf}
+use Rattle.row.specs.Row.{tab, rowOf, dot, product, power, pairing}
+use Rattle.row.specs.Generators.{zWith}
+use Rattle.row.specs.Fill.{filled}
+use Rattle.row_laws.specs.Scalar.{scalar}
+use Rattle.search.specs.Search.{all, firstNot}
+use Rattle.tableau.specs.Tableau.{part, put, eachRow}
+use Rattle.operation.specs.declared.Operation.{Operation}
+use Rattle.operation.specs.declared.Operation.the-variants.{Fourier, Sum, Measure}
+use Rattle.operation.specs.declared.WeylError.{WeylError}
+use Rattle.operation.specs.Gate.{gatePowers, gatePhase, gateRow}
+use Rattle.operation.specs.Error.{errorRow, errorFrame}
+use Rattle.circuit.specs.Circuit.{measured}
+use Rattle.measurement.specs.Look.{pivotOf, combination, weighted, look}
+use Rattle.measurement.specs.Collapse.{collapseRow, collapse}
+use Rattle.runs.specs.Run.{stepsFrom, withResult}
+use Rattle.runs.specs.Direct.{errorsOnRows, directLook, directKind, directErrors, directStep, directRun}
+use Rattle.runs.specs.Frame.{FrameEnd, noFrame, errorsOnFrame, shiftRow, verdictOf, frameLook, frameKind, frameErrors, frameStep, frameSteps, frameLeaves, frameRunFrom, frameRun}
+use Rattle.runs.specs.Raised.{carryBy, frameBefore, carriedFrame, shiftBy, resultShifts, raised}
+use Rattle.runs.specs.Carry.{withShifts, cleanCarried}
+
+-- The frame run leaves `end`, and so does the clean run with the carried frame; with the raised choices, the direct run leaves the same
+-- rows and results. Nothing else is in the buffers.
+record Both (n : ℕ) (ops : List Operation) (errors : List WeylError) (choices second rows results : List ℕ) (end : FrameEnd) : Type 0 where
+  framed : frameRun 3 n ops errors choices (record { rows = rows; results = results }) [] [] ≡ end
+  carries : frameLeaves 3 n ops errors choices [] [] (cleanCarried 3 n ops errors (noFrame n) (directRun 3 n ops [] choices (record { rows = rows; results = results }))) ≡ end
+  raises : raised 3 n ops errors (noFrame n) choices ≡ second
+  after-errors : directRun 3 n ops errors second (record { rows = rows; results = results }) ≡ record { rows = end .rows; results = end .results }
+
+-- Fourier 0, SUM 0 1, then both qudits are measured; X on qudit 1 before operation 2; choices 2 and 0. The first result is free,
+-- the second certain.
+abbrev Book : Type 0
+Book = Both 2 (Fourier 0 1 ∷ Sum 0 1 1 ∷ Measure 0 ∷ Measure 1 ∷ []) (record { place = 2; qudit = 1; p = 1; s = 0 } ∷ []) (2 ∷ 0 ∷ []) (2 ∷ 1 ∷ [])
+    (1 ∷ 0 ∷ 0 ∷ 0 ∷ 0
+    ∷ 0 ∷ 1 ∷ 0 ∷ 0 ∷ 0
+    ∷ 0 ∷ 0 ∷ 1 ∷ 0 ∷ 0
+    ∷ 0 ∷ 0 ∷ 0 ∷ 1 ∷ 0 ∷ [])
+    (9 ∷ 9 ∷ 9 ∷ 9 ∷ [])
+    (record {
+      rows =
+          1 ∷ 1 ∷ 0 ∷ 0 ∷ 0
+          ∷ 0 ∷ 1 ∷ 0 ∷ 0 ∷ 0
+          ∷ 0 ∷ 0 ∷ 1 ∷ 0 ∷ 1
+          ∷ 0 ∷ 0 ∷ 2 ∷ 1 ∷ 2 ∷ [];
+      results = 2 ∷ 1 ∷ 0 ∷ 0 ∷ [];
+      shifts = 0 ∷ 0 ∷ 0 ∷ 2 ∷ [];
+      frame = 0 ∷ 1 ∷ 0 ∷ 0 ∷ [];
+      verdict = 1;
+    })
+
+-- One qudit: X before the only operation, Z after it.
+abbrev Ends : Type 0
+Ends = Both 1 (Fourier 0 1 ∷ []) (record { place = 0; qudit = 0; p = 1; s = 0 } ∷ record { place = 1; qudit = 0; p = 0; s = 1 } ∷ []) [] []
+    (1 ∷ 0 ∷ 0 ∷ 0 ∷ 1 ∷ 0 ∷ [])
+    []
+    (record { rows = 0 ∷ 1 ∷ 0 ∷ 2 ∷ 0 ∷ 1 ∷ []; results = []; shifts = 0 ∷ 1 ∷ []; frame = 0 ∷ 2 ∷ []; verdict = 1 })
+
+-- A certain measurement takes its choice, so the free one takes the second; X just before it raises that.
+abbrev Free : Type 0
+Free = Both 1 (Measure 0 ∷ Fourier 0 1 ∷ Measure 0 ∷ []) (record { place = 2; qudit = 0; p = 1; s = 0 } ∷ []) (1 ∷ 2 ∷ []) (1 ∷ 0 ∷ [])
+    (1 ∷ 0 ∷ 0 ∷ 0 ∷ 1 ∷ 0 ∷ [])
+    (9 ∷ 9 ∷ 9 ∷ 9 ∷ [])
+    (record { rows = 1 ∷ 0 ∷ 0 ∷ 0 ∷ 1 ∷ 0 ∷ []; results = 0 ∷ 0 ∷ 0 ∷ 1 ∷ []; shifts = 0 ∷ 2 ∷ []; frame = 1 ∷ 0 ∷ []; verdict = 1 })
+
+-- Z on level 0 shifts the destabilizer alone: the state stays, and the verdict is clean.
+abbrev Level0 : Type 0
+Level0 = Both 1 [] (record { place = 0; qudit = 0; p = 0; s = 1 } ∷ []) [] []
+    (1 ∷ 0 ∷ 0 ∷ 0 ∷ 1 ∷ 0 ∷ [])
+    []
+    (record { rows = 1 ∷ 0 ∷ 1 ∷ 0 ∷ 1 ∷ 0 ∷ []; results = []; shifts = 1 ∷ 0 ∷ []; frame = 0 ∷ 1 ∷ []; verdict = 0 })
+
+worked : Book × Ends × Free × Level0
+unfolding stepsFrom withResult measured frameRun frameRunFrom frameStep frameKind frameLook frameErrors frameSteps frameLeaves verdictOf shiftRow errorsOnFrame errorFrame raised resultShifts shiftBy carriedFrame carryBy frameBefore withShifts filled directRun directStep directKind directLook directErrors errorsOnRows errorRow look pivotOf firstNot combination weighted all collapse collapseRow eachRow part put product power pairing scalar zWith rowOf tab dot gateRow gatePowers gatePhase inverse powerOf
+worked = (
+  record { framed = refl; carries = refl; raises = refl; after-errors = refl },
+  record { framed = refl; carries = refl; raises = refl; after-errors = refl },
+  record { framed = refl; carries = refl; raises = refl; after-errors = refl },
+  record { framed = refl; carries = refl; raises = refl; after-errors = refl },
+)
