@@ -4,7 +4,7 @@ CDPATH= cd -- "$(dirname -- "$0")/.." || exit 1
 top=$PWD
 . commands/room.sh
 room=$(mktemp -d) || exit 1
-mkdir -p "$room/tmp" "$room/fails" "$room/works" "$room/bare" "$room/books" "$room/elsewhere/clone" || exit 1
+mkdir -p "$room/files" "$room/fails" "$room/works" "$room/bare" "$room/books" "$room/elsewhere/clone" || exit 1
 passed=0
 failed=0
 
@@ -23,7 +23,7 @@ should() { # WHAT WORDS...
 
 simulate=./simulate
 simulate() {
-    TMPDIR="$room/tmp" "$simulate" "$@" > "$room/listing" 2> "$room/said"
+    TMPDIR="$room/files" "$simulate" "$@" > "$room/listing" 2> "$room/said"
     status=$?
 }
 
@@ -178,11 +178,11 @@ if command -v flock > /dev/null; then
     should "a second build waits and says so" grep -q 'another build of this clone' "$room/said"
     should "it runs afterwards" ended 0 examples/paper.txt
 fi
-should "no temporary file is left" [ -z "$(ls "$room/tmp")" ]
+should "no temporary file is left" [ -z "$(ls "$room/files")" ]
 
 # The build script with CAGVOST_LIB: a folder without the archive, with a file that is none, and with an archive.
 check_host() {
-    (cd ./host && CAGVOST_LIB="$room/tmp" CARGO_TARGET_DIR="$room/cargo" cargo check --offline) > "$room/said" 2>&1
+    (cd ./host && CAGVOST_LIB="$room/files" CARGO_TARGET_DIR="$room/cargo" cargo check --offline) > "$room/said" 2>&1
     status=$?
 }
 host_refuses() {
@@ -193,12 +193,12 @@ host_takes() { # FOLDER
 }
 check_host
 should "CAGVOST_LIB without the archive is an error" host_refuses
-echo 'no archive' > "$room/tmp/libcagvost.a"
+echo 'no archive' > "$room/files/libcagvost.a"
 check_host
 should "CAGVOST_LIB with a file that is no archive is an error" host_refuses
-echo '!<arch>' > "$room/tmp/libcagvost.a"
+echo '!<arch>' > "$room/files/libcagvost.a"
 check_host
-should "CAGVOST_LIB with an archive is taken" host_takes "$(cd "$room/tmp" && pwd -P)"
+should "CAGVOST_LIB with an archive is taken" host_takes "$(cd "$room/files" && pwd -P)"
 
 echo "$passed passed, $failed failed"
 [ "$failed" = 0 ]

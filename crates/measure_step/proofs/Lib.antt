@@ -1,5 +1,4 @@
 -- What the proof of `measure` and those of the runs use.
 pub mod Fits
 pub mod Room
-pub mod Progress
 pub mod Supply

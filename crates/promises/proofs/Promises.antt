@@ -2,6 +2,7 @@
 -- proof that is gone, or that does not fit its statement, stops the check here. What a statement says in full stands in the file that it is
 -- imported from; docs/READING-LIST.md names the definitions it rests on.
 -- Assumes nothing.
+use Rattle.modular.specs.Dimension.{ListedIsDimension}
 use Rattle.inverse.specs.Rule.{InverseRight}
 use Rattle.row_laws.specs.Laws.{Associative, Neutral, PowerZero, PowerOne, PowersAdd, PowerModulo, PairingLeft, PairingRight, PairingPower, PairingSelf, PairingOpposite, Exchange, Commute}
 use Rattle.conjugation.specs.Conjugation.{RowSpelled, GateConjugates, GateDetermined, GateKeepsPairing, GateOnFrame, ErrorConjugates, ErrorPairs, ErrorOnFrame, ErrorFramePairs}
@@ -36,6 +37,7 @@ use Rattle.written_book.proofs.Only as only
 use Rattle.written_book.proofs.Writer as writer
 use Rattle.written_book.proofs.Errorless as taken-out
 use Rattle.tray.proofs.Only as table
+use Rattle.modular.proofs.Listed as dimensions
 use Rattle.inverse.proofs.Rule as inverses
 use Rattle.row_laws.proofs.Laws as rows
 use Rattle.conjugation.proofs.Determined as determined
@@ -120,6 +122,10 @@ pub only-tray : OnlyTray
 only-tray = table.only-tray
 
 -- Demand 2: each gate acts as its published conjugation table says, an error as conjugation, a measurement as the stabilizer set says.
+
+-- Every listed d is odd and from 3 to 31, and every u from 1 to d−1 has its inverse: what the theorems below ask of a dimension.
+pub dimension : ListedIsDimension
+dimension = dimensions.dimension
 
 -- The inverse of u times u leaves 1; it is 0 for 0 and from d up.
 pub inverse-right : InverseRight

@@ -7,3 +7,4 @@ pub mod Results
 pub mod Shifts
 pub mod Carry
 pub mod Worked
+pub mod Progress

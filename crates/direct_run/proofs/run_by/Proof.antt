@@ -10,7 +10,7 @@ use Rattle.validity.specs.Validity.{Valid}
 use Rattle.book.specs.Decoded.{operationsOf, errorsOf}
 use Rattle.book.proofs.Lists.{op-count}
 use Rattle.runs.specs.Direct.{stateOf, directStep}
-use Rattle.measure_step.proofs.Progress.{RunProgress, going-start, going-on, going-ends}
+use Rattle.runs.proofs.Progress.{RunProgress, progress-start, progress-more, progress-ends}
 use Rattle.direct_run.proofs.Answers.{run-ends}
 use Rattle.direct_run.proofs.run_by.Statement.{statement}
 use Rattle.direct_run.proofs.run_by.Tie as tie
@@ -30,7 +30,7 @@ abbrev μ-loop : tie.MeasureT-loop
 loop-holds : tie.Need-loop-holds Inv-loop μ-loop
 loop-holds c =
     let s = c .before .before .before .before .before .before in
-    (going-start _ _ _ _, omega arith, s .pre .2, refl, refl)
+    (progress-start _ _ _ _, omega arith, s .pre .2, refl, refl)
 
 advance-requires : tie.Need-advance-requires Inv-loop μ-loop
 advance-requires c κs =
@@ -44,7 +44,7 @@ loop-again c =
     let v = c .before .before .before .before in
     let l = v .before .before .before .before in
     let after = v .advance .ensures in
-    (going-on _ _ _ _ (l .loop .inv .0) (after .0) (after .1), omega arith, after .2, omega arith, omega arith)
+    (progress-more _ _ _ _ (l .loop .inv .0) (after .0) (after .1), omega arith, after .2, omega arith, omega arith)
 
 apply-errors-requires : tie.Need-apply-errors-requires Inv-loop μ-loop
 apply-errors-requires c κs =
@@ -60,7 +60,7 @@ returns c =
     let a = l .before .before .before .before .before .before .before .args in
     let ops = operationsOf (a .d) (a .n) (now (a .ops)) in
     let all : length ops ≡ l .loop .k = omega (arith, op-count (a .d) (a .n) (now (a .ops))) in
-    let g = going-ends _ _ _ _ (l .loop .inv .0) (omega arith) (omega arith) in
+    let g = progress-ends _ _ _ _ (l .loop .inv .0) (omega arith) (omega arith) in
     (run-ends (a .d) (a .n) ops (errorsOf (now (a .errors))) (now (a .choices)) _ (g .so-far) (rw all (k .apply-errors .ensures .0)), g .at-step .count)
 
 pub run-by-spec : {M : Type 1} → statement M
