@@ -38,6 +38,7 @@
 //! assert_eq!(
 //!     tableau,
 //!     [
+//!         3, 2, // dimension 3, two qudits
 //!         1, 1, 0, 0, 0, // destabilizer 0
 //!         0, 1, 0, 0, 0, // destabilizer 1
 //!         0, 0, 1, 0, 1, // stabilizer 0: ω Z on qudit 0
@@ -136,8 +137,11 @@
 //!
 //! # Buffers
 //!
-//! - The *tableau* has 2n rows of 2n + 1 bytes: n X powers, n Z powers and a phase. Destabilizers
-//!   come first, then stabilizers; [`tableau_len`] is its size.
+//! - The *tableau* has d in byte 0 and n in byte 1. From byte 2 on it has 2n rows of 2n + 1 bytes:
+//!   n X powers, n Z powers and a phase. Destabilizers come first, then stabilizers;
+//!   [`tableau_len`] is its size. [`layer`] writes the first two bytes, and a run leaves them as they
+//!   are. So a stored tableau says what it is: [`test_tableau`] has to be told nothing, and a run
+//!   refuses one whose d or n is not the book's, even where its rows would be good for the book.
 //! - The *results* have 2 bytes for each measurement: the outcome, then 0 if it was certain or 1 if
 //!   it was free; [`results_len`] is their size.
 //! - The *shifts* of a frame run have a byte for each row, and its *frame* n X powers and n Z
@@ -173,9 +177,9 @@ pub use write::{book_len, write_book};
 
 use library::Answer;
 
-/// The bytes that the tableau of `n` qudits needs.
+/// The bytes that the tableau of `n` qudits needs: two for d and n, and its rows.
 pub const fn tableau_len(n: usize) -> usize {
-    2 * n * (2 * n + 1)
+    2 * n * (2 * n + 1) + 2
 }
 
 /// The bytes that the results of so many measurements need.
@@ -183,7 +187,8 @@ pub const fn results_len(measurements: usize) -> usize {
     2 * measurements
 }
 
-/// Lays the zero tableau of `n` qudits of dimension `d`: every qudit at level 0.
+/// Lays the zero tableau of `n` qudits of dimension `d`: every qudit at level 0. Its first two bytes
+/// are `d` and `n`.
 ///
 /// # Errors
 ///
@@ -192,26 +197,44 @@ pub fn layer(tableau: &mut [u8], d: usize, n: usize) -> Result<(), Refusal> {
     counted(library::layer(tableau, d, n)).map(drop)
 }
 
-/// Tests whether the buffer holds a valid tableau of `n` qudits of dimension `d`: every byte is
-/// below `d`, and the rows pair as they must.
+/// Tests whether the buffer holds a valid tableau: its first two bytes are a dimension and a number
+/// of qudits, every byte of its rows is below that dimension, and the rows pair as they must.
+///
+/// ```
+/// use cagvost::Refusal;
+/// use cagvost::book::Book;
+///
+/// let mut stored = [0; cagvost::tableau_len(2)];
+/// cagvost::layer(&mut stored, 5, 2)?;
+/// cagvost::test_tableau(&stored)?;
+/// assert_eq!(stored[..2], [5, 2]); // what it is
+///
+/// // The rows of the zero tableau are the same in every dimension. The first byte tells which it is.
+/// let book = Book::new(3, 2).to_bytes();
+/// let refused = cagvost::direct_run(&book, &mut stored, &mut []);
+/// assert_eq!(refused, Err(Refusal::InvalidTableau));
+/// # Ok::<(), Refusal>(())
+/// ```
 ///
 /// # Errors
 ///
-/// [`Refusal::Dimension`], [`Refusal::QuditCount`], [`Refusal::ShortBuffer`],
-/// [`Refusal::InvalidTableau`], tested in this order.
-pub fn test_tableau(tableau: &[u8], d: usize, n: usize) -> Result<(), Refusal> {
-    counted(library::test(tableau, d, n)).map(drop)
+/// [`Refusal::ShortBuffer`] if there are not even two bytes, then [`Refusal::Dimension`],
+/// [`Refusal::QuditCount`], [`Refusal::ShortBuffer`] if there are fewer bytes than the tableau's own
+/// n needs ([`tableau_len`]), and [`Refusal::InvalidTableau`], tested in this order.
+pub fn test_tableau(tableau: &[u8]) -> Result<(), Refusal> {
+    counted(library::test(tableau)).map(drop)
 }
 
 /// Runs a book from the lent tableau, applying each error to the rows where it strikes.
 ///
 /// Returns the number of measurements. Their outcomes and marks are in `results`, the final rows in
-/// `tableau`.
+/// `tableau`, behind the same two bytes.
 ///
 /// # Errors
 ///
 /// What is wrong with the book comes first ([`Refusal::BookHeader`] to [`Refusal::Choice`], in the
-/// order of their numbers), then [`Refusal::ShortBuffer`], then [`Refusal::InvalidTableau`].
+/// order of their numbers), then [`Refusal::ShortBuffer`], where the tableau needs what the book's n
+/// says, then [`Refusal::InvalidTableau`], also where a tableau is of another d or n than the book.
 pub fn direct_run(book: &[u8], tableau: &mut [u8], results: &mut [u8]) -> Result<usize, Refusal> {
     counted(library::direct_run(book, tableau, results))
 }

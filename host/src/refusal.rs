@@ -10,7 +10,7 @@ use std::fmt;
 /// never refuses.
 ///
 /// ```
-/// let refusal = cagvost::test_tableau(&[], 9, 1).unwrap_err();
+/// let refusal = cagvost::test_tableau(&[9, 1]).unwrap_err();
 /// assert_eq!(refusal, cagvost::Refusal::Dimension);
 /// assert_eq!((refusal.number(), refusal.place()), (2, 0));
 /// assert!(refusal.to_string().starts_with("refused 2 at 0: "));
@@ -20,9 +20,11 @@ use std::fmt;
 pub enum Refusal {
     /// 1: the book has fewer than 22 bytes, its first byte is not 81, or its fourth is not 3.
     BookHeader,
-    /// 2: the dimension is not one of [`DIMENSIONS`](crate::book::DIMENSIONS).
+    /// 2: the dimension is not one of [`DIMENSIONS`](crate::book::DIMENSIONS). The tableau test reads
+    /// it from the tableau's first byte.
     Dimension,
-    /// 3: the number of qudits is not from 1 to 64.
+    /// 3: the number of qudits is not from 1 to 64. The tableau test reads it from the tableau's
+    /// second byte.
     QuditCount,
     /// 4: a wrong entry of the book's table of contents. The writer is handed no table: by 4 it
     /// refuses a body that is not of whole entries or has too many.
@@ -56,9 +58,12 @@ pub enum Refusal {
         /// The smaller of the two counts where they differ, else the first bad choice.
         index: usize,
     },
-    /// 8: a lent buffer is shorter than it must be.
+    /// 8: a lent buffer is shorter than it must be. A tableau has to have
+    /// [`tableau_len`](crate::tableau_len) bytes: in a run for the book's number of qudits, in the
+    /// tableau test for its own.
     ShortBuffer,
-    /// 9: the lent tableau is not a valid one for this dimension and number of qudits.
+    /// 9: the lent tableau is not a valid one, or in a run its first two bytes are not the book's
+    /// dimension and number of qudits: it may be valid, and was made for another book.
     InvalidTableau,
     /// 11: the tray has more than 4,096 shots, the errors of one are not whole entries or are more
     /// than 2,048, or it is not as long as its table of contents says.
@@ -101,9 +106,11 @@ impl Refusal {
                 "not a shot book: it needs at least 22 bytes, the first of them 81 and the fourth 3"
             }
             Refusal::Dimension => {
-                "the dimension is not one of 3, 5, 7, 11, 13, 17, 19, 23, 29 and 31"
+                "the dimension (where a tableau is tested, its first byte) is not one of 3, 5, 7, 11, 13, 17, 19, 23, 29 and 31"
             }
-            Refusal::QuditCount => "the number of qudits is not from 1 to 64",
+            Refusal::QuditCount => {
+                "the number of qudits (where a tableau is tested, its second byte) is not from 1 to 64"
+            }
             Refusal::Contents { entry: 3 } => {
                 "the book does not end where its table of contents says"
             }
@@ -122,9 +129,11 @@ impl Refusal {
             Refusal::Choice { .. } => {
                 "choices and measurements differ in number from here on, or this choice is not below the dimension"
             }
-            Refusal::ShortBuffer => "a buffer is shorter than the call needs",
+            Refusal::ShortBuffer => {
+                "a buffer is shorter than the call needs (a tableau has two bytes, d and n, before its rows)"
+            }
             Refusal::InvalidTableau => {
-                "the tableau is not valid: a byte is not below the dimension, or two rows do not pair as they must"
+                "the tableau's first two bytes are not the book's dimension and number of qudits, or it is not valid: a byte of its rows is not below the dimension, or two rows do not pair as they must"
             }
             Refusal::Tray => {
                 "not a tray: it has more than 4,096 shots, the errors of a shot are not whole entries or are more than 2,048, or it is not as long as its table of contents says"
@@ -202,6 +211,17 @@ mod tests {
         assert_ne!(book, tray);
         assert!(!book.to_string().contains("tray"));
         assert!(tray.to_string().contains("shot of the tray"));
+    }
+
+    /// A good tableau that is fed to another book is refused by 9: the words say so, and where the
+    /// numbers stand that 2, 3 and 8 may be about.
+    #[test]
+    fn the_words_say_where_a_tableau_names_itself() {
+        let says = |refusal: Refusal, words: &str| refusal.to_string().contains(words);
+        assert!(says(Refusal::Dimension, "its first byte"));
+        assert!(says(Refusal::QuditCount, "its second byte"));
+        assert!(says(Refusal::ShortBuffer, "two bytes, d and n, before"));
+        assert!(says(Refusal::InvalidTableau, "not the book's"));
     }
 
     #[test]

@@ -142,7 +142,7 @@ pub const fn shots_len(shots: usize, measurements: usize) -> usize {
 ///
 /// What is wrong with the book comes first ([`Refusal::BookHeader`] to [`Refusal::Choice`], as a run
 /// has them), then [`Refusal::Tray`], then [`Refusal::TrayShot`] with the first shot that has a bad
-/// error, then [`Refusal::ShortBuffer`], then [`Refusal::InvalidTableau`].
+/// error, then [`Refusal::ShortBuffer`], then [`Refusal::InvalidTableau`], again as a run has them.
 ///
 /// [`frame_run`]: crate::frame_run
 pub fn tray_run(

@@ -4,7 +4,7 @@ mod common;
 
 use cagvost::book::{Book, DIMENSIONS, MAX_ERRORS, MAX_OPERATIONS, Operation};
 use common::plain::{self, Row};
-use common::{Rng, Run, Shape, UNWRITTEN, Verdicts, run_both};
+use common::{ROWS, Rng, Run, Shape, UNWRITTEN, Verdicts, run_both};
 use common::{draw_book, draw_gate, draw_tableau, with_tail, zero_tableau};
 use common::{with_raised_choices, without_errors};
 
@@ -209,7 +209,7 @@ fn certain_outcomes_are_the_levels() {
 
 /// The row's bytes in a tableau.
 fn row(tableau: &[u8], n: usize, i: usize) -> &[u8] {
-    &tableau[i * (2 * n + 1)..(i + 1) * (2 * n + 1)]
+    &tableau[ROWS + i * (2 * n + 1)..][..2 * n + 1]
 }
 
 /// Measures one qudit of a drawn tableau where several stabilizers could be the pivot, and looks
@@ -256,6 +256,7 @@ fn the_lowest_pivot_is_taken() {
 fn the_lowest_pivot_by_hand() {
     #[rustfmt::skip]
     let before = [
+        5, 3,
         0, 0, 0, 2, 0, 0, 4,
         0, 0, 0, 0, 3, 0, 2,
         0, 0, 1, 0, 0, 1, 0,
@@ -268,6 +269,7 @@ fn the_lowest_pivot_by_hand() {
     assert_eq!(run.results, [1, 1]);
     #[rustfmt::skip]
     assert_eq!(run.tableau, [
+        5, 3,
         1, 0, 1, 0, 0, 1, 1, // P^(1/e) = P^3
         0, 0, 0, 0, 3, 0, 2, // f = 0: times P^0
         4, 0, 0, 0, 0, 0, 4, // f = 1: times P^(−1·3) = P^2; phase 0 + 0 + 1·4
@@ -303,7 +305,9 @@ fn framed_and_direct(rng: &mut Rng, d: u8, n: u8, seen: &mut Verdicts) {
     assert_eq!((returned.0, returned.1), direct.returned);
     assert_eq!(results, direct.results);
     assert!(framed == direct.tableau);
-    let same = plain::same_set(d.into(), n.into(), &framed, &clean.tableau);
+    assert_eq!(framed[..ROWS], [d, n]);
+    let [carried, unstruck] = [&framed[ROWS..], &clean.tableau[ROWS..]];
+    let same = plain::same_set(d.into(), n.into(), carried, unstruck);
     assert_eq!(returned.2, usize::from(!same), "verdict of {first:02x?}");
     seen.count(returned.2 == 0, &shifts);
 }
@@ -351,7 +355,7 @@ fn members_of_the_reference_are_all_products() {
     let mut rng = Rng(13);
     for (d, n) in [(3, 1), (5, 1), (31, 1), (3, 2), (5, 2)] {
         let (modulus, count) = (i64::from(d), usize::from(n));
-        let rows = plain::rows_of(count, &draw_tableau(&mut rng, d, n));
+        let rows = plain::rows_of(count, &draw_tableau(&mut rng, d, n)[ROWS..]);
         let mut listed = vec![plain::identity(count)];
         for row in &rows[count..] {
             let powers = (0..modulus).map(|h| plain::power(modulus, row, h));
@@ -384,12 +388,12 @@ fn sets_by_other_rows(rng: &mut Rng, d: u8, n: u8) {
         then.operation(draw_gate(rng, d, n));
     }
     let after = |book: &Book, tableau: &[u8]| run_both(&book.to_bytes(), tableau, &[]).tableau;
-    let zero = zero_tableau(n);
+    let zero = zero_tableau(d, n);
     let (t, mut u) = (after(&then, &zero), after(&then, &after(&first, &zero)));
-    let same = |u: &[u8]| plain::same_set(d.into(), count, &t, u);
+    let same = |u: &[u8]| plain::same_set(d.into(), count, &t[ROWS..], &u[ROWS..]);
     assert!(t != u && same(&u), "d {d} n {n}");
     for i in 0..2 * count {
-        let phase = i * (2 * count + 1) + 2 * count;
+        let phase = ROWS + i * (2 * count + 1) + 2 * count;
         let before = u[phase];
         u[phase] = (before + 1 + rng.byte_below(d - 1)) % d;
         assert_eq!(same(&u), i < count, "d {d} n {n} row {i}");

@@ -4,7 +4,8 @@ mod common;
 
 use cagvost::Refusal;
 use cagvost::book::{Book, DIMENSIONS, Operation};
-use common::{PAPER_BOOK, Rng, UNWRITTEN, draw_tableau, paper_book, plain, zero_tableau};
+use common::{PAPER_BOOK, ROWS, Rng, UNWRITTEN, named, paper_book, plain, with_byte};
+use common::{draw_tableau, zero_tableau};
 
 /// The tableau and the results of a book from the given tableau.
 fn run(book: &Book, tableau: &[u8]) -> (Vec<u8>, Vec<u8>) {
@@ -15,9 +16,17 @@ fn run(book: &Book, tableau: &[u8]) -> (Vec<u8>, Vec<u8>) {
     (tableau, results)
 }
 
-/// The tableau after one operation.
-fn after(d: u8, n: u8, operation: Operation, tableau: &[u8]) -> Vec<u8> {
-    run(Book::new(d, n).operation(operation), tableau).0
+/// The rows that a run of the book leaves of these, behind the same two bytes.
+fn rows_after(book: &Book, rows: &[u8]) -> Vec<u8> {
+    let (d, n) = (book.dimension(), book.qudits());
+    let (left, _) = run(book, &named(d, n, rows));
+    assert_eq!(left[..ROWS], [d, n]);
+    left[ROWS..].to_vec()
+}
+
+/// The rows after one operation.
+fn after(d: u8, n: u8, operation: Operation, rows: &[u8]) -> Vec<u8> {
+    rows_after(Book::new(d, n).operation(operation), rows)
 }
 
 // ---- Starred cases that a call shows. The row of the case stands first in a valid tableau.
@@ -38,14 +47,14 @@ fn starred_2_phase_gate() {
 
 #[test]
 fn starred_3_cz() {
-    let tableau = [
+    let rows = [
         1, 1, 0, 0, 0, // X on both
         0, 1, 0, 0, 0, //
         0, 0, 1, 0, 0, //
         0, 0, 2, 1, 0, //
     ];
     let (c, t, times) = (0, 1, 1);
-    let left = after(3, 2, Operation::Cz { c, t, times }, &tableau);
+    let left = after(3, 2, Operation::Cz { c, t, times }, &rows);
     assert_eq!(left[..5], [1, 1, 1, 1, 1]);
 }
 
@@ -58,15 +67,15 @@ fn starred_4_multiplier() {
 
 #[test]
 fn starred_7_error() {
-    let (left, _) = run(Book::new(3, 1).error(0, 1, 2), &[1, 1, 0, 0, 1, 0]);
+    let left = rows_after(Book::new(3, 1).error(0, 1, 2), &[1, 1, 0, 0, 1, 0]);
     assert_eq!(left[..3], [1, 1, 1]);
 }
 
 #[test]
 fn starred_8_certain() {
-    let (left, results) = run(Book::new(3, 1).measure(0, 2), &zero_tableau(1));
+    let (left, results) = run(Book::new(3, 1).measure(0, 2), &zero_tableau(3, 1));
     assert_eq!(results, [0, 0]);
-    assert_eq!(left, zero_tableau(1));
+    assert_eq!(left, zero_tableau(3, 1));
 }
 
 #[test]
@@ -74,9 +83,9 @@ fn starred_9_free() {
     let mut book = Book::new(3, 1);
     book.operation(Operation::Fourier { q: 0, times: 1 })
         .measure(0, 2);
-    let (left, results) = run(&book, &zero_tableau(1));
+    let (left, results) = run(&book, &zero_tableau(3, 1));
     assert_eq!(results, [2, 1]);
-    assert_eq!(left, [1, 0, 0, 0, 1, 1]);
+    assert_eq!(left, named(3, 1, &[1, 0, 0, 0, 1, 1]));
 }
 
 // ---- The others
@@ -115,26 +124,27 @@ const NO_COUNTS: [usize; 9] = [
 
 #[test]
 fn listed_dimensions_pass_and_others_are_refused_by_2() {
-    let mut tableau = zero_tableau(1);
-    for d in DIMENSIONS.map(usize::from) {
+    let mut tableau = [UNWRITTEN; cagvost::tableau_len(1)];
+    for d in DIMENSIONS {
         tableau.fill(UNWRITTEN);
-        assert_eq!(cagvost::layer(&mut tableau, d, 1), Ok(()));
-        assert_eq!(cagvost::test_tableau(&tableau, d, 1), Ok(()));
+        assert_eq!(cagvost::layer(&mut tableau, d.into(), 1), Ok(()));
+        assert_eq!(cagvost::test_tableau(&tableau), Ok(()));
+        assert_eq!(tableau[..], zero_tableau(d, 1));
     }
     for d in NO_DIMENSIONS {
         assert_eq!(cagvost::layer(&mut tableau, d, 1), Err(Refusal::Dimension));
-        assert_eq!(
-            cagvost::test_tableau(&tableau, d, 1),
-            Err(Refusal::Dimension)
-        );
+        if let Ok(d) = u8::try_from(d) {
+            let tested = cagvost::test_tableau(&with_byte(&tableau, 0, d));
+            assert_eq!(tested, Err(Refusal::Dimension));
+        }
     }
-    assert_eq!(tableau, zero_tableau(1));
+    assert_eq!(tableau[..], zero_tableau(31, 1));
 }
 
 #[test]
 fn every_dimension_byte_of_a_book() {
     for d in 0..=255 {
-        let mut tableau = zero_tableau(1);
+        let mut tableau = zero_tableau(d, 1);
         let returned = cagvost::direct_run(&Book::new(d, 1).to_bytes(), &mut tableau, &mut []);
         let listed = DIMENSIONS.contains(&d);
         assert_eq!(
@@ -145,7 +155,7 @@ fn every_dimension_byte_of_a_book() {
                 Err(Refusal::Dimension)
             }
         );
-        assert_eq!(tableau, zero_tableau(1));
+        assert_eq!(tableau, zero_tableau(d, 1));
     }
 }
 
@@ -154,8 +164,8 @@ fn one_to_64_qudits_pass_and_others_are_refused_by_3() {
     let mut tableau = vec![UNWRITTEN; cagvost::tableau_len(300)];
     for n in 1..=64 {
         assert_eq!(cagvost::layer(&mut tableau, 31, n), Ok(()));
-        assert_eq!(cagvost::test_tableau(&tableau, 31, n), Ok(()));
-        assert!(tableau[..cagvost::tableau_len(n)] == zero_tableau(n as u8));
+        assert_eq!(cagvost::test_tableau(&tableau), Ok(()));
+        assert!(tableau[..cagvost::tableau_len(n)] == zero_tableau(31, n as u8));
     }
     let before = tableau.clone();
     for n in NO_COUNTS {
@@ -163,10 +173,10 @@ fn one_to_64_qudits_pass_and_others_are_refused_by_3() {
             cagvost::layer(&mut tableau, 31, n),
             Err(Refusal::QuditCount)
         );
-        assert_eq!(
-            cagvost::test_tableau(&tableau, 31, n),
-            Err(Refusal::QuditCount)
-        );
+        if let Ok(n) = u8::try_from(n) {
+            let tested = cagvost::test_tableau(&with_byte(&tableau, 1, n));
+            assert_eq!(tested, Err(Refusal::QuditCount));
+        }
     }
     assert!(tableau == before);
 }
@@ -175,7 +185,7 @@ fn one_to_64_qudits_pass_and_others_are_refused_by_3() {
 fn every_qudit_count_byte_of_a_book() {
     for n in 0..=255 {
         let mut tableau = vec![0; cagvost::tableau_len(255)];
-        tableau[..cagvost::tableau_len(n.into())].copy_from_slice(&zero_tableau(n));
+        tableau[..cagvost::tableau_len(n.into())].copy_from_slice(&zero_tableau(3, n));
         let before = tableau.clone();
         let returned = cagvost::direct_run(&Book::new(3, n).to_bytes(), &mut tableau, &mut []);
         let sized = (1..=64).contains(&n);
@@ -206,10 +216,11 @@ fn no_operations_and_no_errors_keep_the_tableau() {
 
 #[test]
 fn the_book_of_45_bytes() {
-    let (left, results) = run(&paper_book(), &zero_tableau(2));
+    let (left, results) = run(&paper_book(), &zero_tableau(3, 2));
     assert_eq!(results, [2, 1, 0, 0]);
     #[rustfmt::skip]
     assert_eq!(left, [
+        3, 2,
         1, 1, 0, 0, 0,
         0, 1, 0, 0, 0,
         0, 0, 1, 0, 1,
@@ -240,7 +251,7 @@ fn starred_6_power_of_the_reference() {
 /// The listing of the specification, but for its words.
 #[test]
 fn the_book_of_45_bytes_as_frame_run_of_the_reference() {
-    let (mut tableau, mut results) = (zero_tableau(2), [UNWRITTEN; 4]);
+    let (mut tableau, mut results) = (zero_tableau(3, 2), [UNWRITTEN; 4]);
     let (mut shifts, mut frame) = ([UNWRITTEN; 4], [UNWRITTEN; 4]);
     let returned = plain::frame_run(
         &PAPER_BOOK,

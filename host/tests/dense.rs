@@ -7,7 +7,7 @@ mod common;
 use cagvost::Verdict;
 use cagvost::book::{Book, DIMENSIONS, Operation, WeylError};
 use common::dense::State;
-use common::{Rng, Shape, UNWRITTEN, Verdicts, paper_book, with_times};
+use common::{ROWS, Rng, Shape, UNWRITTEN, Verdicts, paper_book, with_times};
 use common::{cz, draw_book, draw_error, every_factor, sum, times, without_errors, zero_tableau};
 
 /// Rounding in a run of some dozens of gates stays far below, 1/d and a root's step far above.
@@ -35,7 +35,7 @@ struct Followed {
 
 /// Runs a book from the zero tableau and follows it on the state vector.
 fn follow(book: &Book, seen: &mut Seen) -> Followed {
-    let mut tableau = zero_tableau(book.qudits());
+    let mut tableau = zero_tableau(book.dimension(), book.qudits());
     let mut results = vec![UNWRITTEN; cagvost::results_len(book.measurements())];
     cagvost::direct_run(&book.to_bytes(), &mut tableau, &mut results).expect("an accepted book");
     for (result, choice) in results.chunks(2).zip(book.choices()) {
@@ -62,7 +62,7 @@ struct Carried {
 /// Carries the book's errors from the zero tableau.
 fn carry(book: &Book) -> Carried {
     let n = usize::from(book.qudits());
-    let mut tableau = zero_tableau(book.qudits());
+    let mut tableau = zero_tableau(book.dimension(), book.qudits());
     let mut results = vec![UNWRITTEN; cagvost::results_len(book.measurements())];
     let mut shifts = vec![UNWRITTEN; cagvost::shifts_len(n)];
     let mut frame = vec![UNWRITTEN; cagvost::frame_len(n)];
@@ -118,8 +118,8 @@ fn check_frame(carried: &Carried, clean: &Followed, book: &Book) -> State {
     let n = usize::from(book.qudits());
     let frame = [&carried.frame[..], &[0]].concat();
     let framed = after(&clean.state, &frame);
-    let shifted = carried.tableau.chunks(2 * n + 1);
-    let rows = clean.tableau.chunks(2 * n + 1).zip(shifted);
+    let shifted = carried.tableau[ROWS..].chunks(2 * n + 1);
+    let rows = clean.tableau[ROWS..].chunks(2 * n + 1).zip(shifted);
     for (i, (row, shifted)) in rows.take(n).enumerate() {
         let moved = after(&after(&clean.state, row), &frame);
         assert!(
@@ -139,9 +139,9 @@ fn after(state: &State, row: &[u8]) -> State {
 
 /// The tableau is valid, and its stabilizers fix the state.
 fn check_rows(tableau: &[u8], state: &State, book: &Book) {
-    let (d, n) = (usize::from(book.dimension()), usize::from(book.qudits()));
-    assert_eq!(cagvost::test_tableau(tableau, d, n), Ok(()), "{book:?}");
-    for (i, row) in tableau.chunks(2 * n + 1).skip(n).enumerate() {
+    let n = usize::from(book.qudits());
+    assert_eq!(cagvost::test_tableau(tableau), Ok(()), "{book:?}");
+    for (i, row) in tableau[ROWS..].chunks(2 * n + 1).skip(n).enumerate() {
         assert!(
             after(state, row).distance(state) < CLOSE,
             "stabilizer {i} of {book:?} does not fix the state"
@@ -156,11 +156,12 @@ fn check_shifts(carried: &Carried, clean: &[u8], book: &Book) {
     let below_d = |bytes: &[u8]| bytes.iter().all(|&x| x < d);
     assert!(below_d(&carried.shifts), "shifts of {book:?}");
     assert!(below_d(&carried.frame), "frame of {book:?}");
-    let mut rows = clean.to_vec();
-    for (row, shift) in rows.chunks_mut(2 * n + 1).zip(&carried.shifts) {
+    let mut expected = clean.to_vec();
+    let rows = expected[ROWS..].chunks_mut(2 * n + 1);
+    for (row, shift) in rows.zip(&carried.shifts) {
         row[2 * n] = (row[2 * n] + shift) % d;
     }
-    assert_eq!(carried.tableau, rows, "{book:?}");
+    assert_eq!(carried.tableau, expected, "{book:?}");
     let shifted = carried.shifts[n..].iter().any(|&shift| shift != 0);
     assert_eq!(carried.verdict == Verdict::Shifted, shifted, "{book:?}");
 }
@@ -490,9 +491,9 @@ fn cases_without_a_star() {
         .flat_map(|d| small_sizes(d).map(move |n| (d, n)))
     {
         let empty = Book::new(d, n);
-        assert_eq!(follow(&empty, &mut seen).tableau, zero_tableau(n));
+        assert_eq!(follow(&empty, &mut seen).tableau, zero_tableau(d, n));
         let carried = follow_frame(&empty, &mut seen);
-        assert_eq!(carried.tableau, zero_tableau(n));
+        assert_eq!(carried.tableau, zero_tableau(d, n));
         assert_eq!(carried.shifts, vec![0; 2 * usize::from(n)]);
         assert_eq!(carried.verdict, Verdict::Clean);
     }

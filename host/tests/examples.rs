@@ -93,7 +93,7 @@ fn listing(bytes: &[u8]) -> String {
         Ok(book) => book,
         Err((number, place)) => return format!("refused {number} at {place}\n"),
     };
-    let mut left = Buffers::zero(book.n as u8, book.measurements());
+    let mut left = Buffers::zero(book.d as u8, book.n as u8, book.measurements());
     let (number, _, verdict) = left.by_plain(bytes);
     assert_eq!(number, 0);
     let mut text = format!(

@@ -6,7 +6,7 @@ mod common;
 use cagvost::book::{Book, DIMENSIONS, MAX_ERRORS, MAX_OPERATIONS, Operation, WeylError};
 use common::frames::{Buffers, carry_both};
 use common::plain::{self, Row};
-use common::{PAPER_BOOK, Rng, Shape, UNWRITTEN, Verdicts, run_both};
+use common::{PAPER_BOOK, ROWS, Rng, Shape, UNWRITTEN, Verdicts, named, run_both};
 use common::{cz, draw_book, draw_error, draw_tableau, sum, zero_tableau};
 use common::{with_raised_choices, without_errors};
 
@@ -14,13 +14,14 @@ use common::{with_raised_choices, without_errors};
 
 #[test]
 fn the_book_of_45_bytes() {
-    let (returned, left) = carry_both(&PAPER_BOOK, &Buffers::zero(2, 2));
+    let (returned, left) = carry_both(&PAPER_BOOK, &Buffers::zero(3, 2, 2));
     assert_eq!(returned, (0, 2, 1));
     assert_eq!(left.results, [2, 1, 0, 0]);
     assert_eq!(left.shifts, [0, 0, 0, 2]);
     assert_eq!(left.frame, [0, 1, 0, 0]);
     #[rustfmt::skip]
     assert_eq!(left.tableau, [
+        3, 2,
         1, 1, 0, 0, 0,
         0, 1, 0, 0, 0,
         0, 0, 1, 0, 1,
@@ -48,20 +49,20 @@ fn no_operations_and_no_errors_keep_the_tableau() {
 #[test]
 fn a_z_error_on_level_0_is_clean() {
     let book = Book::new(3, 1).error(0, 0, 1).to_bytes();
-    let (returned, left) = carry_both(&book, &Buffers::zero(1, 0));
+    let (returned, left) = carry_both(&book, &Buffers::zero(3, 1, 0));
     assert_eq!(returned, (0, 0, 0));
     assert_eq!(left.shifts, [1, 0]);
-    assert_eq!(left.tableau, [1, 0, 1, 0, 1, 0]);
+    assert_eq!(left.tableau, named(3, 1, &[1, 0, 1, 0, 1, 0]));
 }
 
 /// An X error on level 0 shifts a stabilizer: the state is level 1.
 #[test]
 fn an_x_error_on_level_0_is_shifted() {
     let book = Book::new(3, 1).error(0, 1, 0).to_bytes();
-    let (returned, left) = carry_both(&book, &Buffers::zero(1, 0));
+    let (returned, left) = carry_both(&book, &Buffers::zero(3, 1, 0));
     assert_eq!(returned, (0, 0, 1));
     assert_eq!(left.shifts, [0, 2]);
-    assert_eq!(left.tableau, [1, 0, 0, 0, 1, 2]);
+    assert_eq!(left.tableau, named(3, 1, &[1, 0, 0, 0, 1, 2]));
 }
 
 /// From the zero tableau an X error on a qudit shifts its stabilizer alone, a Z error its
@@ -75,7 +76,7 @@ fn each_row_alone() {
         for q in 0..3 {
             let carry = |p, s| {
                 let book = Book::new(d, 3).error(q, p, s).to_bytes();
-                let (returned, left) = carry_both(&book, &Buffers::zero(3, 0));
+                let (returned, left) = carry_both(&book, &Buffers::zero(d, 3, 0));
                 (returned, left.shifts)
             };
             let alone = |row: u8, shift| {
@@ -94,7 +95,7 @@ fn each_row_alone() {
 fn errors_that_cancel_are_clean() {
     let mut book = Book::new(5, 1);
     book.error(0, 2, 0).measure(0, 4).error(0, 3, 0);
-    let (returned, left) = carry_both(&book.to_bytes(), &Buffers::zero(1, 1));
+    let (returned, left) = carry_both(&book.to_bytes(), &Buffers::zero(5, 1, 1));
     assert_eq!(returned, (0, 1, 0));
     assert_eq!(left.results, [2, 0]);
 }
@@ -109,9 +110,9 @@ fn refusals_in_their_order() {
         .error(1, 1, 1)
         .measure(0, 1);
     let good = good.to_bytes();
-    let whole = Buffers::zero(2, 1);
+    let whole = Buffers::zero(3, 2, 1);
     let shorten: [fn(&mut Buffers); 4] = [
-        |b| b.tableau.truncate(19),
+        |b| b.tableau.truncate(21),
         |b| b.results.truncate(1),
         |b| b.shifts.truncate(3),
         |b| b.frame.truncate(3),
@@ -131,7 +132,7 @@ fn refusals_in_their_order() {
         }
     }
     let mut invalid = whole.clone();
-    invalid.tableau[0] = 2;
+    invalid.tableau[ROWS] = 2;
     assert_eq!(carry_both(&good, &invalid).0, (9, 0, 0));
 }
 
@@ -141,7 +142,7 @@ fn every_single_byte_damage_of_the_paper_book() {
     for (place, byte) in (0..PAPER_BOOK.len()).flat_map(|i| (0..=255).map(move |x| (i, x))) {
         let mut book = PAPER_BOOK;
         book[place] = byte;
-        let before = Buffers::drawn(&mut rng, 2, 2, zero_tableau(2));
+        let before = Buffers::drawn(&mut rng, 2, 2, zero_tableau(3, 2));
         carry_both(&book, &before);
     }
 }
@@ -158,8 +159,9 @@ fn shape(rng: &mut Rng, d: u8, n: u8, most: usize) -> Shape {
     }
 }
 
-/// Carries the errors of a book and applies them in the book with raised choices: demand 3. Then
-/// leaves them out: the verdict is clean exactly if that run ends with the same stabilizer set.
+/// Carries the errors of a book and applies them in the book with raised choices: demand 3, in every
+/// byte of the tableau, and both runs leave the book's d and n before the rows. Then leaves the errors
+/// out: the verdict is clean exactly if that run ends with the same stabilizer set.
 fn framed_and_direct(rng: &mut Rng, book: &Book, tableau: Vec<u8>, seen: &mut Verdicts) {
     let (d, n, first) = (book.dimension(), book.qudits(), book.to_bytes());
     let before = Buffers::drawn(rng, n, book.measurements(), tableau);
@@ -170,8 +172,10 @@ fn framed_and_direct(rng: &mut Rng, book: &Book, tableau: Vec<u8>, seen: &mut Ve
     assert_eq!(returned.0, 0);
     assert!(framed.results == direct.results, "results of {first:02x?}");
     assert!(framed.tableau == direct.tableau, "tableau of {first:02x?}");
+    assert_eq!(framed.tableau[..ROWS], [d, n]);
     let clean = run(&without_errors(book));
-    let same = plain::same_set(d.into(), n.into(), &framed.tableau, &clean.tableau);
+    let [carried, unstruck] = [&framed.tableau[ROWS..], &clean.tableau[ROWS..]];
+    let same = plain::same_set(d.into(), n.into(), carried, unstruck);
     assert_eq!(returned.2, usize::from(!same), "verdict of {first:02x?}");
     seen.count(returned.2 == 0, &framed.shifts[..2 * usize::from(n)]);
 }
@@ -242,7 +246,7 @@ fn every_error_at_every_place() {
                 .operation(Operation::Multiplier { q: 0, u: 2 })
                 .measure(0, 2);
             book.error_at(WeylError { place, qudit, p, s });
-            framed_and_direct(&mut rng, &book, zero_tableau(2), &mut seen);
+            framed_and_direct(&mut rng, &book, zero_tableau(d, 2), &mut seen);
         }
     }
     seen.are_enough(50);
@@ -328,13 +332,13 @@ fn carry_kind(rng: &mut Rng, kind: Kind, d: u8, n: u8, seen: &mut Verdicts) {
     };
     let mut book = draw_book(rng, shape);
     let tableau = match kind {
-        Kind::One | Kind::EarlyZ => zero_tableau(n),
+        Kind::One | Kind::EarlyZ => zero_tableau(d, n),
         _ => draw_tableau(rng, d, n),
     };
     let mut last = tableau.clone();
     let mut results = vec![UNWRITTEN; 2 * book.measurements()];
     cagvost::direct_run(&book.to_bytes(), &mut last, &mut results).expect("an accepted book");
-    let errors = draw_errors(rng, kind, &book, &plain::rows_of(n.into(), &last));
+    let errors = draw_errors(rng, kind, &book, &plain::rows_of(n.into(), &last[ROWS..]));
     errors
         .into_iter()
         .for_each(|error| _ = book.error_at(error));

@@ -10,7 +10,7 @@ mod common;
 use cagvost::book::{Book, DIMENSIONS, MAX_QUDITS, Operation};
 use common::frames::{Buffers, carry_both};
 use common::plain::{self, Op, Row};
-use common::{Rng, UNWRITTEN, draw_noisy, draw_tableau, every_factor, run_both, times};
+use common::{ROWS, Rng, UNWRITTEN, draw_noisy, draw_tableau, every_factor, run_both, times};
 
 // ---- Multipliers
 
@@ -39,8 +39,9 @@ fn every_multiplier_on_rows() {
         let run = run_both(&book.to_bytes(), &tableau, &[]);
         assert_eq!(run.returned, (0, 0));
         let (width, z) = (2 * usize::from(n) + 1, usize::from(n + q));
-        assert!(tableau.chunks(width).any(|row| row[z] != 0));
-        for (before, after) in tableau.chunks(width).zip(run.tableau.chunks(width)) {
+        let [before, after] = [&tableau, &run.tableau].map(|t| t[ROWS..].chunks(width));
+        assert!(before.clone().any(|row| row[z] != 0));
+        for (before, after) in before.zip(after) {
             assert_eq!(times(d, u, after[z]), before[z], "d {d} u {u}");
         }
     });
@@ -99,7 +100,7 @@ fn pivot(rows: &[Row], q: usize) -> Option<usize> {
 /// X power there: one beside the pivot and its destabilizer, which an exponent changes.
 fn draw_free(rng: &mut Rng, d: u8, n: u8) -> (Vec<Row>, usize) {
     loop {
-        let rows = plain::rows_of(n.into(), &draw_tableau(rng, d, n));
+        let rows = plain::rows_of(n.into(), &draw_tableau(rng, d, n)[ROWS..]);
         let q = rng.below(n.into());
         let changing = rows.iter().filter(|row| row.a[q] != 0).count();
         if pivot(&rows, q).is_some() && changing > 2 {
@@ -110,14 +111,15 @@ fn draw_free(rng: &mut Rng, d: u8, n: u8) -> (Vec<Row>, usize) {
 
 /// Measures q with each choice, by both runs. Returns the pivot's X power there.
 fn measure_free(rng: &mut Rng, d: u8, rows: &[Row], q: usize, choices: &[u8]) -> i64 {
-    let (n, tableau) = (rows.len() / 2, plain::bytes_of(rows));
+    let (n, tableau) = (rows.len() / 2, plain::tableau_of(d.into(), rows));
     let k = pivot(rows, q).expect("a free measurement");
     let e = rows[n + k].a[q];
     for &m in choices {
         let measured = Book::new(d, n as u8).measure(q as u8, m).to_bytes();
         let run = run_both(&measured, &tableau, &[UNWRITTEN; 2]);
         assert_eq!(run.results, [m, 1]);
-        check_collapsed(d, rows, &plain::rows_of(n, &run.tableau), (q, k, e));
+        let after = plain::rows_of(n, &run.tableau[ROWS..]);
+        check_collapsed(d, rows, &after, (q, k, e));
         let mut noisy = draw_noisy(rng, d, n as u8);
         noisy.measure(q as u8, m);
         let before = Buffers::drawn(rng, n as u8, 1, tableau.clone());

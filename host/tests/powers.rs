@@ -12,7 +12,7 @@ use common::dense::State;
 use common::frames::{Buffers, carry_both};
 use common::plain::{self, Returned};
 use common::trays::{Lent, draw_errors, draw_tray, tray_both};
-use common::{BODIES, Rng, Shape, UNWRITTEN, run_both, slices, write_both};
+use common::{BODIES, ROWS, Rng, Shape, UNWRITTEN, named, run_both, slices, write_both};
 use common::{cz, draw_book, draw_gate, draw_noisy, draw_tableau, most_times, sum, times_of};
 use common::{with_tail, with_times};
 
@@ -197,7 +197,7 @@ fn after(d: u8, n: u8, operation: Operation, tableau: &[u8]) -> Vec<u8> {
 #[test]
 fn powers_on_one_qudit_worked_by_hand() {
     let q = 0;
-    let tableau = [2, 1, 0, 0, 3, 0];
+    let tableau = named(5, 1, &[2, 1, 0, 0, 3, 0]);
     for (power, row) in [
         (Operation::Fourier { q, times: 2 }, [3, 4, 0]),
         (Operation::Fourier { q, times: 3 }, [1, 3, 3]),
@@ -205,7 +205,8 @@ fn powers_on_one_qudit_worked_by_hand() {
         (Operation::PhaseGate { q, times: 3 }, [2, 2, 3]),
         (Operation::PhaseGate { q, times: 4 }, [2, 4, 4]),
     ] {
-        assert_eq!(after(5, 1, power, &tableau)[..3], row, "{power:?}");
+        let left = after(5, 1, power, &tableau);
+        assert_eq!(left[ROWS..][..3], row, "{power:?}");
     }
 }
 
@@ -214,6 +215,7 @@ fn powers_on_one_qudit_worked_by_hand() {
 fn powers_on_two_qudits_worked_by_hand() {
     #[rustfmt::skip]
     let tableau = [
+        5, 2,
         1, 2, 3, 1, 4,
         0, 1, 1, 0, 0,
         0, 0, 1, 0, 0,
@@ -227,7 +229,7 @@ fn powers_on_two_qudits_worked_by_hand() {
         (cz(1, 0), 4, [1, 2, 1, 0, 2]),
     ] {
         let left = after(5, 2, with_times(gate, k), &tableau);
-        assert_eq!(left[..5], row, "{gate:?} {k} times");
+        assert_eq!(left[ROWS..][..5], row, "{gate:?} {k} times");
     }
 }
 
@@ -409,7 +411,8 @@ fn check_powers_on_levels(d: u8, n: u8) {
     for power in every_power(d, gates_on(&Vec::from_iter(0..n))) {
         let tableau = draw_tableau(&mut rng, d, n);
         let left = after(d, n, power, &tableau);
-        for (row, after) in tableau.chunks(width).zip(left.chunks(width)) {
+        let rows = tableau[ROWS..].chunks(width);
+        for (row, after) in rows.zip(left[ROWS..].chunks(width)) {
             check_on_levels(d, n, power, row, after);
         }
     }

@@ -9,19 +9,16 @@ use cagvost::book::{Book, DIMENSIONS, MAX_CHOICES, MAX_ERRORS, MAX_OPERATIONS};
 use cagvost::book::{Operation, WeylError};
 use common::frames::{Buffers, carry_both};
 use common::plain::{Returned, is_valid, read};
-use common::zero_tableau;
-use common::{BODIES, FULL, PAPER_BOOK, Rng, Shape, UNWRITTEN, layer_both, run_both, test_both};
-use common::{counted, cz, draw_book, draw_tableau, sum, with_byte, with_tail, with_times};
+use common::{BODIES, FULL, PAPER_BOOK, ROWS, Rng, Shape, UNWRITTEN};
+use common::{counted, cz, draw_book, draw_tableau, layer_both, named, run_both, sum, test_both};
+use common::{with_byte, with_tail, with_times, zero_tableau};
 
 /// What a run with good buffers says to the book.
 fn answer(book: &[u8]) -> Returned {
-    let n = book
-        .get(2)
-        .copied()
-        .filter(|n| (1..=64).contains(n))
-        .unwrap_or(1);
+    let [d, n] = [1, 2].map(|i| book.get(i).copied().unwrap_or(1));
+    let n = if (1..=64).contains(&n) { n } else { 1 };
     let results = vec![UNWRITTEN; 2 * MAX_CHOICES];
-    run_both(book, &zero_tableau(n), &results).returned
+    run_both(book, &zero_tableau(d, n), &results).returned
 }
 
 /// A book with one operation, as bytes.
@@ -78,7 +75,7 @@ fn refusals_2_and_3_sizes() {
             assert_eq!(returned, expected, "d {d} n {n}");
             let junk = rng.bytes(40);
             layer_both(&junk, d.into(), n.into());
-            test_both(&junk, d.into(), n.into());
+            test_both(&named(d, n, &junk));
         }
     }
 }
@@ -271,19 +268,18 @@ fn earlier_numbers_win_over_later_ones() {
         (3, 4, (1, 0)),
     ];
     let mut rng = Rng(8);
-    let mut invalid = zero_tableau(3);
-    invalid[0] = 2;
+    let valid = zero_tableau(5, 3);
+    let invalid = with_byte(&valid, ROWS, 2);
+    let other = zero_tableau(3, 3);
     let results = [UNWRITTEN; 4];
     assert_eq!(run_both(&book, &[], &[]).returned, (8, 0));
     for (place, byte, expected) in faults {
         book[place] = byte;
-        // A bad book beats short buffers and an invalid tableau.
-        assert_eq!(
-            run_both(&book, &zero_tableau(3), &results).returned,
-            expected
-        );
+        // A bad book beats short buffers, an invalid tableau and one of another dimension.
+        assert_eq!(run_both(&book, &valid, &results).returned, expected);
         assert_eq!(run_both(&book, &[], &[]).returned, expected);
         assert_eq!(run_both(&book, &invalid, &results).returned, expected);
+        assert_eq!(run_both(&book, &other, &results).returned, expected);
         let junk = rng.bytes(50);
         assert_eq!(run_both(&book, &junk, &junk).returned, expected);
     }
@@ -300,11 +296,11 @@ fn refusal_8_short_buffers() {
         let (book, tableau) = (book.to_bytes(), draw_tableau(&mut rng, 7, n));
         let (needed, results) = (tableau.len(), vec![UNWRITTEN; 2 * usize::from(n)]);
         assert_eq!(run_both(&book, &tableau, &results).returned, (0, n.into()));
-        for length in [0, 1, needed / 2, needed - 1] {
+        for length in [0, 1, 2, needed / 2, needed - 2, needed - 1] {
             let short = &tableau[..length];
             assert_eq!(run_both(&book, short, &results).returned, (8, 0));
             assert_eq!(layer_both(short, 7, n.into()).0, (8, 0));
-            assert_eq!(test_both(short, 7, n.into()), (8, 0));
+            assert_eq!(test_both(short), (8, 0));
         }
         for length in [0, 1, results.len() - 1] {
             let short = &results[..length];
@@ -331,7 +327,10 @@ fn sizes_are_tested_before_buffers() {
     ] {
         for buffer in [vec![], vec![255; 5]] {
             assert_eq!(layer_both(&buffer, d, n).0, expected);
-            assert_eq!(test_both(&buffer, d, n), expected);
+            // The test reads both from the buffer, where they are bytes.
+            if let (Ok(d), Ok(n)) = (u8::try_from(d), u8::try_from(n)) {
+                assert_eq!(test_both(&named(d, n, &buffer)), expected);
+            }
         }
     }
 }
@@ -344,9 +343,9 @@ fn refusal_9_every_byte_of_a_small_tableau() {
     let book = book.to_bytes();
     for _ in 0..4 {
         let tableau = draw_tableau(&mut rng, 3, 2);
-        for (place, byte) in (0..tableau.len()).flat_map(|i| (0..=255).map(move |x| (i, x))) {
+        for (place, byte) in (ROWS..tableau.len()).flat_map(|i| (0..=255).map(move |x| (i, x))) {
             let damaged = with_byte(&tableau, place, byte);
-            let returned = test_both(&damaged, 3, 2);
+            let returned = test_both(&damaged);
             assert!(returned == (0, 0) || returned == (9, 0));
             assert_eq!(
                 run_both(&book, &damaged, &[UNWRITTEN; 4]).returned.0,
@@ -363,18 +362,18 @@ fn refusal_9_damaged_tableaus_of_every_size() {
         let d = DIMENSIONS[rng.below(DIMENSIONS.len())];
         let most = if rng.once_in(20) { 64 } else { 6 };
         let n = 1 + rng.byte_below(most);
-        let (width, modulus) = (2 * usize::from(n) + 1, usize::from(d));
+        let width = 2 * usize::from(n) + 1;
         let mut tableau = draw_tableau(&mut rng, d, n);
-        assert_eq!(test_both(&tableau, modulus, n.into()), (0, 0));
-        let place = rng.below(tableau.len());
+        assert_eq!(test_both(&tableau), (0, 0));
+        let place = ROWS + rng.below(tableau.len() - ROWS);
         tableau[place] = match rng.below(3) {
             0 => d + rng.byte_below(255 - d),
             _ => (tableau[place] + 1 + rng.byte_below(d - 1)) % d,
         };
-        let returned = test_both(&tableau, modulus, n.into());
+        let returned = test_both(&tableau);
         if tableau[place] >= d {
             assert_eq!(returned, (9, 0), "a byte not below d");
-        } else if place % width == width - 1 {
+        } else if (place - ROWS) % width == width - 1 {
             assert_eq!(returned, (0, 0), "another phase is as good");
         }
         run_both(&Book::new(d, n).to_bytes(), &tableau, &[]);
@@ -386,22 +385,22 @@ fn refusal_9_rows_in_the_wrong_place() {
     let mut rng = Rng(19);
     for d in DIMENSIONS {
         for n in [1, 2, 5, 64] {
-            let (count, width) = (usize::from(n), 2 * usize::from(n) + 1);
-            let tableau = draw_tableau(&mut rng, d, n);
+            let width = 2 * usize::from(n) + 1;
+            let rows = draw_tableau(&mut rng, d, n).split_off(ROWS);
             // Destabilizers and stabilizers exchanged: partners pair to −1.
-            let (first, second) = tableau.split_at(tableau.len() / 2);
+            let (first, second) = rows.split_at(rows.len() / 2);
             let exchanged = [second, first].concat();
-            assert_eq!(test_both(&exchanged, d.into(), count), (9, 0));
+            assert_eq!(test_both(&named(d, n, &exchanged)), (9, 0));
             // Two rows of one half exchanged.
             if n > 1 {
-                let mut moved = tableau.clone();
+                let mut moved = rows.clone();
                 let (head, tail) = moved.split_at_mut(width);
                 head.swap_with_slice(&mut tail[..width]);
-                assert_eq!(test_both(&moved, d.into(), count), (9, 0));
+                assert_eq!(test_both(&named(d, n, &moved)), (9, 0));
             }
             // No rows at all.
-            let nothing = vec![0; tableau.len()];
-            assert_eq!(test_both(&nothing, d.into(), count), (9, 0));
+            let nothing = vec![0; rows.len()];
+            assert_eq!(test_both(&named(d, n, &nothing)), (9, 0));
         }
     }
 }
@@ -527,9 +526,13 @@ fn random_bytes_as_bodies_and_tableaus() {
         book[BODIES..]
             .iter_mut()
             .for_each(|x| *x = rng.byte_below(end));
-        let tableau: Vec<u8> = (0..42).map(|_| rng.byte_below(3)).collect();
+        let rows: Vec<u8> = (0..42).map(|_| rng.byte_below(3)).collect();
+        // Two in three have the book's n, and three in four its d.
+        let n = [1 + rng.byte_below(3), book[2]][rng.below(2)];
+        let tableau = named([3, 3, 3, 5][rng.below(4)], n, &rows);
         let returned = run_both(&book, &tableau, &[UNWRITTEN; 16]).returned;
-        let accepted = read(&book).is_ok_and(|book| is_valid(book.d, book.n, &tableau));
-        assert_eq!(returned.0 == 0, accepted);
+        let is_named = tableau[..ROWS] == book[1..3];
+        let is_good = read(&book).is_ok_and(|book| is_valid(book.d, book.n, &rows));
+        assert_eq!(returned.0 == 0, is_named && is_good);
     }
 }

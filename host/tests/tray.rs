@@ -9,7 +9,7 @@ mod common;
 use cagvost::book::{Book, DIMENSIONS, MAX_ERRORS, MAX_OPERATIONS, Operation, WeylError};
 use cagvost::{MAX_SHOTS, Refusal, Shots, Tray, TrayCounts, Verdict};
 use common::trays::{Lent, Returned, draw_circuit, draw_errors, draw_tray, separate, tray_both};
-use common::{PAPER_BOOK, Rng, Shape, UNWRITTEN, draw_book, draw_error, paper_book, slices};
+use common::{PAPER_BOOK, ROWS, Rng, Shape, UNWRITTEN, draw_book, draw_error, paper_book, slices};
 use common::{draw_gate, draw_tableau, sum, with_byte, without_errors, zero_tableau};
 use std::thread;
 
@@ -686,7 +686,7 @@ fn refusal_6_of_the_book_and_of_the_tray() {
 fn refusal_8_short_buffers() {
     let lent = small();
     let (tableau, out) = (lent.tableau.len(), lent.out.len());
-    assert_eq!((tableau, out), (20, 25));
+    assert_eq!((tableau, out), (22, 25));
     for length in 0..=tableau + 3 {
         let mut lent = lent.clone();
         lent.tableau.resize(length, 0);
@@ -702,7 +702,7 @@ fn refusal_8_short_buffers() {
     // Without shots nothing is written, and the tableau is still tested.
     let mut none = Lent::zero(&small_book(), &Tray::new());
     assert_eq!(tray_both(&none).0, (0, 0, 0));
-    none.tableau[0] = 2;
+    none.tableau[ROWS] = 2;
     assert_eq!(tray_both(&none).0, (9, 0, 0));
     none.tableau.pop();
     assert_eq!(tray_both(&none).0, (8, 0, 0));
@@ -744,7 +744,7 @@ fn refusal_9_every_byte_of_the_tableau() {
 type Fault = (Returned, fn(&mut Lent));
 
 /// One fault of the small book and tray for each number, in the order in which they are tested.
-const FAULTS: [Fault; 12] = [
+const FAULTS: [Fault; 14] = [
     ((1, 0, 0), |lent| lent.book[0] = 80),
     ((2, 0, 0), |lent| lent.book[1] = 9),
     ((3, 0, 0), |lent| lent.book[2] = 65),
@@ -754,9 +754,11 @@ const FAULTS: [Fault; 12] = [
     ((7, 1, 0), |lent| lent.book[44] = 9),
     ((11, 0, 0), |lent| lent.tray.push(0)),
     ((6, 3, 0), |lent| lent.tray[12 + 15 + 3] = 9),
-    ((8, 0, 0), |lent| lent.tableau.truncate(19)),
+    ((8, 0, 0), |lent| lent.tableau.truncate(21)),
     ((8, 0, 0), |lent| lent.out.truncate(24)),
-    ((9, 0, 0), |lent| lent.tableau[0] = 2),
+    ((9, 0, 0), |lent| lent.tableau[0] = 3),
+    ((9, 0, 0), |lent| lent.tableau[1] = 1),
+    ((9, 0, 0), |lent| lent.tableau[ROWS] = 2),
 ];
 
 #[test]
@@ -787,7 +789,8 @@ fn every_way_of_11_comes_before_every_way_of_6() {
             };
             tray_both(&lent).0
         };
-        for tableau in [vec![], vec![4; 20], zero_tableau(2)] {
+        let other = zero_tableau(3, 2);
+        for tableau in [vec![], vec![4; 22], other, zero_tableau(5, 2)] {
             assert_eq!(lent(&tray, &tableau), (6, 5, 0));
             assert_eq!(lent(&tray[..tray.len() - 1], &tableau), (11, 0, 0));
             assert_eq!(lent(&with_byte(&tray, 1, 16), &tableau), (11, 0, 0));
@@ -854,7 +857,7 @@ fn drawn_trays_damaged_a_few_times() {
             lent.out.truncate(rng.below(9));
         }
         if rng.once_in(8) {
-            lent.tableau[0] += 1;
+            lent.tableau[rng.below(ROWS + 1)] += 1;
         }
         numbers[tray_both(&lent).0.0] += 1;
     }

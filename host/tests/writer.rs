@@ -310,7 +310,8 @@ fn every_length_of_the_buffer() {
 
 /// The library's direct run of the book from the zero tableau.
 fn run(book: &[u8], measurements: usize) -> Run {
-    let (mut tableau, mut results) = (zero_tableau(book[2]), vec![UNWRITTEN; 2 * measurements]);
+    let mut tableau = zero_tableau(book[1], book[2]);
+    let mut results = vec![UNWRITTEN; 2 * measurements];
     Run {
         returned: returned(cagvost::direct_run(book, &mut tableau, &mut results)),
         tableau,

@@ -6,6 +6,7 @@ use mathlib.Core.List.{List}
 use Prim.Native.Nat.{ℕ, _≤_}
 use lib.ListN.{length}
 use Rattle.modular.specs.Dimension.{listed}
+use Rattle.tableau.specs.Tableau.{sized}
 use Rattle.tableau.proofs.Sized.{sized-most}
 use Rattle.circuit.specs.Circuit.{measured, Accepted}
 use Rattle.book_body.specs.declared.Numbers.{Numbers}
@@ -23,6 +24,7 @@ pub record Handed (s : List ℕ) (d n choices : ℕ) : Type 0 where
   pub errors : ℕ
   pub reads : readBook s ≡ accepted d n operations errors choices
   pub dimension : listed d ≡ true
+  pub qudits-sized : sized n ≡ true
   pub qudits : n ≤ 64
   pub bodies : Inside s
   pub first : bodyOf s 1 ≡ partOf s operationsEntry
@@ -46,6 +48,7 @@ handed s {reading} {b} e f =
       errors = b .errors;
       reads = reads;
       dimension = m .dimension-listed;
+      qudits-sized = m .qudits-sized;
       qudits = sized-most (b .n) (m .qudits-sized);
       bodies = inside s (p .head) (p .contents);
       first = b1;

@@ -15,9 +15,10 @@ use Rattle.book_body.specs.Body.{badOperation, measurements, goodError, badErro
 use Rattle.book.specs.Book.{headerFits, entryFits, badContents, readBook, bodyOf}
 use Rattle.book.specs.Decoded.{operationsOf, errorsOf}
 use Rattle.validity.specs.Validity.{rowValid, valid}
+use Rattle.saved_tableau.specs.Saved.{selfValid}
 use Rattle.runs.specs.Frame.{errorsOnFrame}
 use Rattle.runs.specs.Raised.{carryBy, frameBefore, carriedFrame, shiftBy, resultShifts, raised}
-use Rattle.frame_run.specs.FrameBook.{Buffers, buffersOf}
+use Rattle.frame_run.specs.FrameBook.{buffersOf}
 use Rattle.book_laws.specs.Lent.{Lent}
 use Rattle.book_laws.specs.Agreement.{raisedBook}
 
@@ -33,18 +34,20 @@ unfolding raisedBook raised resultShifts shiftBy carriedFrame carryBy frameBefor
 second = refl
 
 -- The premises of demand 3 can be met: the zero tableau of one qutrit, a copy of it, and room for two results.
-abbrev zero-rows : List ℕ
-zero-rows = 1 ∷ 0 ∷ 0 ∷ 0 ∷ 1 ∷ 0 ∷ []
+abbrev zero-tableau : List ℕ
+zero-tableau = 3 ∷ 1 ∷ 1 ∷ 0 ∷ 0 ∷ 0 ∷ 1 ∷ 0 ∷ []
 
 abbrev four : List ℕ
 four = 0 ∷ 0 ∷ 0 ∷ 0 ∷ []
 
-lendable : Lent 3 1 2 zero-rows four (buffersOf zero-rows four four four)
-unfolding valid rowValid all pairing dot part
+lendable : Lent 3 1 2 zero-tableau four (buffersOf zero-tableau four four four)
+unfolding listed selfValid valid rowValid all pairing dot part
 lendable =
     record {
       start-room = omega arith;
       start-valid = refl;
+      start-dimension = refl;
+      start-qudits = refl;
       copy-room = omega arith;
       copied = λ i l. refl;
       direct-results = omega arith;

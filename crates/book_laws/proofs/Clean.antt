@@ -7,6 +7,8 @@ use native.Mathlib.Omega.{arith}
 use Rattle.modular.specs.Dimension.{Dimension}
 use Rattle.modular.proofs.Listed.{dimension}
 use Rattle.row.specs.Row.{tab}
+use Rattle.saved_tableau.specs.Saved.{rowsIn}
+use Rattle.saved_tableau.proofs.Rows.{rows-back}
 use Rattle.book_body.specs.Body.{accepted}
 use Rattle.book.specs.Book.{readBook}
 use Rattle.book.specs.Decoded.{Means, errorsOf, opsIn, errorsIn, choicesIn, measurementsIn}
@@ -15,7 +17,7 @@ use Rattle.written_book.specs.Errorless.{errorless, ErrorsRemoved}
 use Rattle.written_book.proofs.Errorless.{errorless-accepted}
 use Rattle.measurement_laws.specs.Stabilizers.{SameSet}
 use Rattle.measurement_laws.proofs.Sets.{same-set, same-back, same-through}
-use Rattle.runs.specs.Direct.{State, directRun}
+use Rattle.runs.specs.Direct.{State, stateOf, directRun}
 use Rattle.runs.specs.Frame.{noFrame, frameRun}
 use Rattle.run_laws.proofs.Results.{related-none, Equal}
 use Rattle.run_laws.proofs.Buffers.{Twin, twin-run}
@@ -46,34 +48,36 @@ module _ (s : List ℕ) {d n operations errors choices : ℕ} (e : readBook s �
   clean-from st = directRun d n (opsIn s d n) [] (choicesIn s) st
 
   abbrev started : State
-  started = record { rows = lent .tableau; results = lent .results }
+  started = stateOf (rowsIn (lent .tableau)) (lent .results)
 
   abbrev copied : State
-  copied = record { rows = t; results = results }
+  copied = stateOf (rowsIn t) results
 
   same : SameSet d n (clean-from started .rows) (clean-from copied .rows)
   same =
       let twin : Twin n (measurementsIn s d n) (measurementsIn s d n) (clean-from started) (clean-from copied) =
       twin-run d n (omega (arith, dim .low)) (opsIn s d n) [] (choicesIn s)
-      (record { rows = window dim given; results = related-none Equal _ (given .frame-results) (given .direct-results) }) in
+      (record { rows = window given; results = related-none Equal _ (given .frame-results) (given .direct-results) }) in
       same-set d n (λ i l. twin .rows .rows (n + i) (omega arith))
 
   compared : Compared d n (directBook (errorless d n s) t results) (frameBook s lent)
   unfolding frameRun
   compared =
-      let a = clean-lists d n dim (opsIn s d n) (errorsIn s) (choicesIn s) (noFrame n) (means .lists) started (start dim given) (lent .shifts) (lent .frame) in
+      let a = clean-lists d n dim (opsIn s d n) (errorsIn s) (choicesIn s) (noFrame n) (means .lists) started (start given) (lent .shifts) (lent .frame) in
       rw (
-        direct-left dim given (errorless d n s) (taken .accepts) (rw (taken .same-operations)),
+        direct-left given (errorless d n s) (taken .accepts) (rw (taken .same-operations)),
         taken .same-operations,
         taken .no-errors,
         taken .same-choices,
         no-errors,
-        frame-left dim given s e refl,
+        frame-left given s e refl,
       )
       (record {
         clean-ends = refl;
         frame-ends = refl;
-        exactly = (λ c. same-through d n (a .0 c) same, λ h. a .1 (same-through d n h (same-back d n same)));
+        exactly =
+            rw (rows-back t _ (omega (arith, given .copy-room)), rows-back (lent .tableau) _ (omega (arith, given .start-room)))
+            (λ c. same-through d n (a .0 c) same, λ h. a .1 (same-through d n h (same-back d n same)));
       })
 
 pub clean-exactly : CleanExactly

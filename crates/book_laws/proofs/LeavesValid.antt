@@ -1,81 +1,123 @@
--- What either run leaves, if it does not refuse, passes the tableau test: it keeps validity, and it began on a valid tableau.
+-- What the layer and either run leave, if they do not refuse, passes the tableau test: the zero tableau is valid, and a run keeps
+-- validity and begins on a valid tableau.
 -- Assumes nothing.
-use mathlib.Core.Path.{_≡_}
-use mathlib.Core.Bool.{Bool, true}
+use mathlib.Core.Path.{_≡_, refl}
+use mathlib.Core.Bool.{true}
 use mathlib.Core.List.{List}
-use Prim.Native.Nat.{ℕ, _+_, _*_}
+use Prim.Native.Nat.{ℕ, _≤_}
 use native.Mathlib.Omega.{arith}
 use lib.Dec.{leb}
-use lib.ListN.{length}
-use borrow.Author.Tests.{le-leb, leb-true}
+use lib.ListN.{length, take, length-drop}
+use borrow.Author.Tests.{leb-true, eq-eqb}
 use Rattle.modular.specs.Dimension.{Dimension, listed}
 use Rattle.modular.proofs.Listed.{dimension}
 use Rattle.search.proofs.Search.{both, unless-cases}
 use Rattle.tableau.specs.Tableau.{sized}
-use Rattle.validity.specs.Validity.{valid, Valid, testNumber}
-use Rattle.validity.proofs.Exactly.{valid-exactly}
+use Rattle.validity.specs.Validity.{Valid}
+use Rattle.validity_laws.proofs.Keeping.{zero-valid}
+use Rattle.saved_tableau.specs.Saved.{rowsIn, withRows, tableauBytes, names, validFor}
+use Rattle.saved_tableau.specs.Layer.{layerNumber, layerLeaves}
+use Rattle.saved_tableau.specs.Test.{testNumber}
+use Rattle.saved_tableau.proofs.Rows.{opened, same-bytes}
+use Rattle.saved_tableau.proofs.Exactly.{saved-passes, is-named, valid-rows}
+use Rattle.saved_tableau.proofs.Shape.{shaped}
 use Rattle.book_body.specs.Body.{accepted}
 use Rattle.book.specs.Book.{readBook}
 use Rattle.book.specs.Decoded.{Means, opsIn, errorsIn, choicesIn, measurementsIn}
+use Rattle.book.proofs.Answers.{read-cases}
 use Rattle.book.proofs.Meaning.{accepted-means}
+use Rattle.runs.specs.Direct.{stateOf, directRun}
 use Rattle.runs.specs.Frame.{noFrame, frameRun}
 use Rattle.run_laws.proofs.Sound.{run-keeps-valid}
 use Rattle.run_laws.proofs.Clean.{frame-keeps-valid}
 use Rattle.direct_run.specs.DirectBook.{DirectLeft, directBuffersFit, directByAnswer, directBook}
-use Rattle.frame_run.specs.FrameBook.{Buffers, FrameLeft, frameBuffersFit, frameByAnswer, frameBook}
-use Rattle.book_laws.specs.LeavesValid.{DirectLeavesValid, FrameLeavesValid}
+use Rattle.frame_run.specs.FrameBook.{FrameLeft, frameBuffersFit, frameByAnswer, frameBook}
+use Rattle.book_laws.specs.LeavesValid.{LayerLeavesValid, DirectLeavesValid, FrameLeavesValid}
 
--- a valid tableau passes the test
-passes : (d n : ℕ) (t : List ℕ) → listed d ≡ true → sized n ≡ true → Valid d n t → testNumber d n t ≡ 0
-unfolding testNumber
-passes d n t a b v =
-    rw (a, b, le-leb (2 * n * (2 * n + 1)) (length t) (v .room), valid-exactly d n (dimension d a) t (v .room) .1 v)
+pub layer-leaves-valid : LayerLeavesValid
+unfolding layerNumber layerLeaves
+layer-leaves-valid d n t e =
+    let k = shaped d n t e in
+    rw (eq-eqb (layerNumber d n t) 0 e)
+    (saved-passes d n _ (k .dimension) (k .qudits) (zero-valid d n (dimension d (k .dimension)) (rowsIn t) (omega (arith, length-drop 2 t, k .room))))
 
-module _ (s : List ℕ) (d n operations errors choices : ℕ) (e : readBook s ≡ accepted d n operations errors choices) where
+-- valid rows behind the two bytes of a tableau that a run takes
+left-valid : {d n : ℕ} (t rows : List ℕ) → listed d ≡ true → sized n ≡ true → tableauBytes n ≤ length t → validFor d n t ≡ true → Valid d n rows
+    → (testNumber (withRows t rows) ≡ 0) × (take 2 (withRows t rows) ≡ take 2 t)
+unfolding validFor
+left-valid {d} {n} t rows h k room e v =
+    let two : 2 ≤ length t = omega (arith, room) in
+    let q = is-named t (both (names d n t) _ e .0) in
+    (rw (opened t rows two, q .0, q .1) (saved-passes d n rows h k v), same-bytes t rows two)
+
+module _ (s : List ℕ) {d n operations errors choices : ℕ} (e : readBook s ≡ accepted d n operations errors choices) where
   m : Means s d n operations errors choices
   m = accepted-means s d n operations errors choices e
 
   dim : Dimension d
   dim = dimension d (m .dimension-listed)
 
-  direct-passes : (t results : List ℕ) → directBook s t results .number ≡ 0 → testNumber d n (directBook s t results .tableau) ≡ 0
-  unfolding directBook directByAnswer
-  direct-passes t results =
-      rw e
-      (unless-cases P (directBuffersFit n (measurementsIn s d n) t results) (λ r h. absurd (omega arith))
-      (λ r.
-      unless-cases P (valid d n t) (λ v h. absurd (omega arith))
-      (λ v h.
-      passes d n _ (m .dimension-listed) (m .qudits-sized)
-      (run-keeps-valid d n dim (opsIn s d n) (errorsIn s) (choicesIn s) (m .lists) (record { rows = t; results = results })
-      (valid-exactly d n dim t (leb-true _ _ (both _ _ r .0)) .0 v)))))
-    where
-      P : DirectLeft → Type 0
-      P l = l .number ≡ 0 → testNumber d n (l .tableau) ≡ 0
+  module _ (t results : List ℕ) (room : tableauBytes n ≤ length t) (v : validFor d n t ≡ true) where
+    abbrev direct-rows : List ℕ
+    direct-rows = directRun d n (opsIn s d n) (errorsIn s) (choicesIn s) (stateOf (rowsIn t) results) .rows
 
-  frame-passes : (lent : Buffers) → frameBook s lent .number ≡ 0 → testNumber d n (frameBook s lent .left .tableau) ≡ 0
-  unfolding frameBook frameByAnswer frameBuffersFit frameRun
-  frame-passes lent =
-      rw e
-      (unless-cases P (frameBuffersFit n (measurementsIn s d n) lent) (λ r h. absurd (omega arith))
-      (λ r.
-      unless-cases P (valid d n (lent .tableau)) (λ v h. absurd (omega arith))
-      (λ v h.
-      passes d n _ (m .dimension-listed) (m .qudits-sized)
-      (frame-keeps-valid d n dim (opsIn s d n) (errorsIn s) (choicesIn s) (noFrame n) (m .lists)
-      (record { rows = lent .tableau; results = lent .results })
-      (valid-exactly d n dim (lent .tableau) (leb-true _ _ (both rows _ r .0)) .0 v)
-      (lent .shifts)
-      (lent .frame)))))
-    where
-      P : FrameLeft → Type 0
-      P l = l .number ≡ 0 → testNumber d n (l .left .tableau) ≡ 0
+    direct-passes : (testNumber (withRows t direct-rows) ≡ 0) × (take 2 (withRows t direct-rows) ≡ take 2 t)
+    direct-passes =
+        left-valid t direct-rows (m .dimension-listed) (m .qudits-sized) room v
+        (run-keeps-valid d n dim (opsIn s d n) (errorsIn s) (choicesIn s) (m .lists) (stateOf (rowsIn t) results) (valid-rows t room v))
 
-      rows : Bool
-      rows = leb (2 * n * (2 * n + 1)) (length (lent .tableau))
+    module _ (shifts frame : List ℕ) where
+      abbrev frame-rows : List ℕ
+      frame-rows = frameRun d n (opsIn s d n) (errorsIn s) (choicesIn s) (stateOf (rowsIn t) results) shifts frame .rows
+
+      frame-passes : (testNumber (withRows t frame-rows) ≡ 0) × (take 2 (withRows t frame-rows) ≡ take 2 t)
+      unfolding frameRun
+      frame-passes =
+          left-valid t frame-rows (m .dimension-listed) (m .qudits-sized) room v
+          (frame-keeps-valid d n dim (opsIn s d n) (errorsIn s) (choicesIn s) (noFrame n) (m .lists) (stateOf (rowsIn t) results) (valid-rows t room v)
+          shifts
+          frame)
 
 pub direct-leaves-valid : DirectLeavesValid
-direct-leaves-valid = direct-passes
+unfolding directBook directByAnswer
+direct-leaves-valid s t results =
+    read-cases (λ x. readBook s ≡ x → P (directByAnswer s t results x))
+    (λ e h. absurd (omega arith))
+    (λ e h. absurd (omega arith))
+    (λ e h. absurd (omega arith))
+    (λ k e h. absurd (omega arith))
+    (λ k e h. absurd (omega arith))
+    (λ k e h. absurd (omega arith))
+    (λ k e h. absurd (omega arith))
+    (λ d n o c m e.
+    unless-cases P (directBuffersFit n (measurementsIn s d n) t results) (λ r h. absurd (omega arith))
+    (λ r.
+    unless-cases P (validFor d n t) (λ v h. absurd (omega arith))
+    (λ v h. direct-passes s e t results (leb-true _ _ (both _ _ r .0)) v)))
+    s refl
+  where
+    P : DirectLeft → Type 0
+    P l = l .number ≡ 0 → (testNumber (l .tableau) ≡ 0) × (take 2 (l .tableau) ≡ take 2 t)
 
 pub frame-leaves-valid : FrameLeavesValid
-frame-leaves-valid = frame-passes
+unfolding frameBook frameByAnswer frameBuffersFit
+frame-leaves-valid s lent =
+    read-cases (λ x. readBook s ≡ x → P (frameByAnswer s lent x))
+    (λ e h. absurd (omega arith))
+    (λ e h. absurd (omega arith))
+    (λ e h. absurd (omega arith))
+    (λ k e h. absurd (omega arith))
+    (λ k e h. absurd (omega arith))
+    (λ k e h. absurd (omega arith))
+    (λ k e h. absurd (omega arith))
+    (λ d n o c m e.
+    unless-cases P (frameBuffersFit n (measurementsIn s d n) lent) (λ r h. absurd (omega arith))
+    (λ r.
+    unless-cases P (validFor d n (lent .tableau)) (λ v h. absurd (omega arith))
+    (λ v h.
+    frame-passes s e (lent .tableau) (lent .results) (leb-true _ _ (both (leb (tableauBytes n) (length (lent .tableau))) _ r .0)) v (lent .shifts)
+    (lent .frame))))
+    s refl
+  where
+    P : FrameLeft → Type 0
+    P l = l .number ≡ 0 → (testNumber (l .left .tableau) ≡ 0) × (take 2 (l .left .tableau) ≡ take 2 (lent .tableau))

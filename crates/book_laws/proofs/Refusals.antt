@@ -12,8 +12,10 @@ use borrow.Author.Tests.{ne-eqb}
 use Rattle.modular.specs.Dimension.{among, listed}
 use Rattle.search.proofs.Search.{unless-cases}
 use Rattle.tableau.specs.Tableau.{sized}
-use Rattle.layer.specs.Layer.{layerNumber, layerLeaves}
-use Rattle.validity.specs.Validity.{valid, testNumber}
+use Rattle.saved_tableau.specs.Saved.{dimensionIn, quditsIn, selfValid, validFor}
+use Rattle.saved_tableau.specs.Shape.{shapeNumber}
+use Rattle.saved_tableau.specs.Layer.{layerNumber, layerLeaves}
+use Rattle.saved_tableau.specs.Test.{testNumber}
 use Rattle.book_body.specs.Body.{ReaderAnswer, refused, accepted}
 use Rattle.book.specs.Book.{readBook}
 use Rattle.book.proofs.Answers.{read-cases}
@@ -26,21 +28,21 @@ use Rattle.shots.specs.Shots.{trayBook}
 use Rattle.shots.proofs.Refusals.{tray-cases}
 use Rattle.book_laws.specs.Refusals.{runNumbers, trayNumbers, writerNumbers, NumbersListed, WriterNamesBody, LayerUnchanged, WriterUnchanged, DirectUnchanged, FrameUnchanged, TrayUnchanged}
 
+-- what holds of 2, 3, 8 and of the rest holds of the tests of shape with that rest
+shape-cases : (P : ℕ → Type 0) (d n : ℕ) (t : List ℕ) (rest : ℕ) → P 2 → P 3 → P 8 → P rest → P (shapeNumber d n t rest)
+shape-cases P d n t rest two three eight goes =
+    unless-cases P (listed d) (λ e. two)
+    (λ e. unless-cases P (sized n) (λ e. three) (λ e. unless-cases P (leb _ (length t)) (λ e. eight) (λ e. goes)))
+
 layer-listed : (d n : ℕ) (t : List ℕ) → among (layerNumber d n t) (0 ∷ 2 ∷ 3 ∷ 8 ∷ []) ≡ true
 unfolding layerNumber
-layer-listed d n t =
-    unless-cases P (listed d) (λ e. refl) (λ e. unless-cases P (sized n) (λ e. refl) (λ e. unless-cases P (leb _ (length t)) (λ e. refl) (λ e. refl)))
-  where
-    P : ℕ → Type 0
-    P number = among number (0 ∷ 2 ∷ 3 ∷ 8 ∷ []) ≡ true
+layer-listed d n t = shape-cases (λ number. among number (0 ∷ 2 ∷ 3 ∷ 8 ∷ []) ≡ true) d n t 0 refl refl refl refl
 
-test-listed : (d n : ℕ) (t : List ℕ) → among (testNumber d n t) (0 ∷ 2 ∷ 3 ∷ 8 ∷ 9 ∷ []) ≡ true
+test-listed : (t : List ℕ) → among (testNumber t) (0 ∷ 2 ∷ 3 ∷ 8 ∷ 9 ∷ []) ≡ true
 unfolding testNumber
-test-listed d n t =
-    unless-cases P (listed d) (λ e. refl)
-    (λ e.
-    unless-cases P (sized n) (λ e. refl)
-    (λ e. unless-cases P (leb _ (length t)) (λ e. refl) (λ e. unless-cases P (valid d n t) (λ e. refl) (λ e. refl))))
+test-listed t =
+    unless-cases P (leb 2 (length t)) (λ e. refl)
+    (λ e. shape-cases P (dimensionIn t) (quditsIn t) t _ refl refl refl (unless-cases P (selfValid t) (λ e. refl) (λ e. refl)))
   where
     P : ℕ → Type 0
     P number = among number (0 ∷ 2 ∷ 3 ∷ 8 ∷ 9 ∷ []) ≡ true
@@ -54,7 +56,7 @@ direct-listed : (s t results : List ℕ) → among (directBook s t results .numb
 unfolding directBook directByAnswer
 direct-listed s t results =
     read-cases (λ x. P (directByAnswer s t results x)) refl refl refl (λ k. refl) (λ k. refl) (λ k. refl) (λ k. refl)
-    (λ d n o e c. unless-cases P (directBuffersFit n (measurementsIn s d n) t results) (λ e. refl) (λ e. unless-cases P (valid d n t) (λ e. refl) (λ e. refl)))
+    (λ d n o e c. unless-cases P (directBuffersFit n (measurementsIn s d n) t results) (λ e. refl) (λ e. unless-cases P (validFor d n t) (λ e. refl) (λ e. refl)))
     s
   where
     P : DirectLeft → Type 0
@@ -65,7 +67,7 @@ unfolding frameBook frameByAnswer
 frame-listed s lent =
     read-cases (λ x. P (frameByAnswer s lent x)) refl refl refl (λ k. refl) (λ k. refl) (λ k. refl) (λ k. refl)
     (λ d n o e c.
-    unless-cases P (frameBuffersFit n (measurementsIn s d n) lent) (λ e. refl) (λ e. unless-cases P (valid d n (lent .tableau)) (λ e. refl) (λ e. refl)))
+    unless-cases P (frameBuffersFit n (measurementsIn s d n) lent) (λ e. refl) (λ e. unless-cases P (validFor d n (lent .tableau)) (λ e. refl) (λ e. refl)))
     s
   where
     P : FrameLeft → Type 0
@@ -112,7 +114,7 @@ direct-unchanged s t results = go (readBook s)
     go (refused number place) = λ h. (refl, refl)
     go (accepted d n operations errors choices) =
         unless-cases P (directBuffersFit n (measurementsIn s d n) t results) (λ e h. (refl, refl))
-        (λ e. unless-cases P (valid d n t) (λ e h. (refl, refl)) (λ e h. absurd (h refl)))
+        (λ e. unless-cases P (validFor d n t) (λ e h. (refl, refl)) (λ e h. absurd (h refl)))
 
 pub frame-unchanged : FrameUnchanged
 unfolding frameBook frameByAnswer
@@ -125,7 +127,7 @@ frame-unchanged s lent = go (readBook s)
     go (refused number place) = λ h. (refl, refl)
     go (accepted d n operations errors choices) =
         unless-cases P (frameBuffersFit n (measurementsIn s d n) lent) (λ e h. (refl, refl))
-        (λ e. unless-cases P (valid d n (lent .tableau)) (λ e h. (refl, refl)) (λ e h. absurd (h refl)))
+        (λ e. unless-cases P (validFor d n (lent .tableau)) (λ e h. (refl, refl)) (λ e h. absurd (h refl)))
 
 pub tray-unchanged : TrayUnchanged
 tray-unchanged s tray t out =

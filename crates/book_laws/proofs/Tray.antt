@@ -7,7 +7,7 @@ use Prim.Native.Nat.{ℕ, zero, suc, _+_, _*_, _/_, _<_, _≤_}
 use native.Mathlib.Nat.{le-refl}
 use native.Mathlib.Omega.{arith}
 use lib.Dec.{eqb, leb}
-use lib.ListN.{length, getD, take}
+use lib.ListN.{length, getD, take, length-drop}
 use borrow.Author.Tests.{leb-true}
 use Rattle.modular.specs.Dimension.{Dimension}
 use Rattle.modular.proofs.Listed.{dimension}
@@ -15,6 +15,7 @@ use Rattle.search.specs.Search.{all}
 use Rattle.search.proofs.Search.{both}
 use Rattle.tableau.specs.Tableau.{part}
 use Rattle.tableau.proofs.Parts.{part-length, part-at, each-length, each-rest}
+use Rattle.saved_tableau.specs.Saved.{rowsIn, tableauBytes}
 use Rattle.circuit.specs.Circuit.{measured}
 use Rattle.book_body.specs.Body.{lengthFits, accepted}
 use Rattle.book.specs.Book.{readBook, bodyOf}
@@ -26,6 +27,7 @@ use Rattle.written_book.proofs.Errorless.{with-errors, errorless-accepted}
 use Rattle.tray.specs.Tray.{shotsIn, lengthAt, startOf, shotBody}
 use Rattle.tray.proofs.Table.{table-says, body-inside}
 use Rattle.tray.proofs.GoodShots.{shot-good}
+use Rattle.runs.specs.Direct.{stateOf}
 use Rattle.runs.specs.Frame.{FrameEnd, verdictOf, frameLeaves, frameRunFrom, frameRun}
 use Rattle.frame_run.specs.FrameBook.{Buffers, frameBuffersFit, frameEnded, frameByAnswer, frameBook}
 use Rattle.frame_run.proofs.Books.{room-of}
@@ -46,7 +48,7 @@ module _ (s tray t out : List ℕ) {d n operations errors choices : ℕ} (e : re
   count = ap (measured (opsIn s d n)) (means .operation-count) ∙ means .measurement-count
 
   -- what holds where nothing refuses the tray, holds where its number is 0
-  goes-cases : (P : TrayLeft → Type 0) → (Goes d n operations s tray t out → P (trayEnded d n (opsIn s d n) (choicesIn s) tray t out))
+  goes-cases : (P : TrayLeft → Type 0) → (Goes d n operations s tray t out → P (trayEnded d n (opsIn s d n) (choicesIn s) tray (rowsIn t) out))
       → trayBook s tray t out .number ≡ 0
       → P (trayBook s tray t out)
   unfolding trayBook
@@ -60,32 +62,32 @@ module _ (s tray t out : List ℕ) {d n operations errors choices : ℕ} (e : re
       (λ g h. goes g))
 
   module _ (g : Goes d n operations s tray t out) where
-    rooms : (2 * n * (2 * n + 1) ≤ length t) × (shotsIn tray * (1 + 2 * measurementsIn s d n) ≤ length out)
+    rooms : (tableauBytes n ≤ length t) × (shotsIn tray * (1 + 2 * measurementsIn s d n) ≤ length out)
     unfolding trayBuffersFit
     rooms =
-        let a = both (leb (2 * n * (2 * n + 1)) (length t)) _ (g .room) in
+        let a = both (leb (tableauBytes n) (length t)) _ (g .room) in
         (leb-true _ _ (a .0), leb-true _ _ (a .1))
 
     -- what is filled, in shots of w bytes
     abbrev filled : List ℕ
-    filled = filledBy d n (opsIn s d n) (choicesIn s) t tray out (shotsIn tray)
+    filled = filledBy d n (opsIn s d n) (choicesIn s) (rowsIn t) tray out (shotsIn tray)
 
     abbrev w : ℕ
     w = 1 + 2 * measurementsIn s d n
 
     abbrev verdict : ℕ → ℕ
-    verdict i = runOf d n (opsIn s d n) (choicesIn s) t tray i .verdict
+    verdict i = runOf d n (opsIn s d n) (choicesIn s) (rowsIn t) tray i .verdict
 
     first-byte : (i : ℕ) → i < shotsIn tray → getD filled (i * w) 0 ≡ verdict i
     first-byte i l =
         let q : i * w + 0 ≡ i * w = omega arith in
         ap (λ (x : ℕ). getD filled x 0) (sym q) ∙ sym (part-at (i * w) w filled 0 (omega arith))
-        ∙ ap (λ (v : List ℕ). getD v 0 0) (shot-at d n (opsIn s d n) (choicesIn s) t tray out (shotsIn tray) i l (rooms .1))
+        ∙ ap (λ (v : List ℕ). getD v 0 0) (shot-at d n (opsIn s d n) (choicesIn s) (rowsIn t) tray out (shotsIn tray) i l (rooms .1))
 
     rest-kept : RestKept (shotsIn tray * w) out filled
     rest-kept =
-        let k = keeps d n (opsIn s d n) (choicesIn s) t tray in
-        let row = shotRow d n (opsIn s d n) (choicesIn s) t tray in
+        let k = keeps d n (opsIn s d n) (choicesIn s) (rowsIn t) tray in
+        let row = shotRow d n (opsIn s d n) (choicesIn s) (rowsIn t) tray in
         record { len = each-length row w out k (shotsIn tray) (rooms .1); rest = each-rest row w out k (shotsIn tray) (rooms .1) }
 
     -- a verdict that is not 0 is 1
@@ -97,12 +99,12 @@ module _ (s tray t out : List ℕ) {d n operations errors choices : ℕ} (e : re
         by true = refl
         by false = refl
 
-    clean-counted : (k : ℕ) → k ≤ shotsIn tray → cleanAmong d n (opsIn s d n) (choicesIn s) t tray k ≡ verdictsIn 0 w filled k
+    clean-counted : (k : ℕ) → k ≤ shotsIn tray → cleanAmong d n (opsIn s d n) (choicesIn s) (rowsIn t) tray k ≡ verdictsIn 0 w filled k
     unfolding cleanAmong verdictsIn
     clean-counted zero l = refl
     clean-counted (suc k) l = rw (first-byte k l, clean-counted k (omega arith))
 
-    shifted-counted : (k : ℕ) → k ≤ shotsIn tray → shiftedAmong d n (opsIn s d n) (choicesIn s) t tray k ≡ verdictsIn 1 w filled k
+    shifted-counted : (k : ℕ) → k ≤ shotsIn tray → shiftedAmong d n (opsIn s d n) (choicesIn s) (rowsIn t) tray k ≡ verdictsIn 1 w filled k
     unfolding shiftedAmong verdictsIn
     shifted-counted zero l = refl
     shifted-counted (suc k) l = rw (first-byte k l, shifted-counted k (omega arith), is-one k)
@@ -121,19 +123,19 @@ module _ (s tray t out : List ℕ) {d n operations errors choices : ℕ} (e : re
 
       abbrev ended : FrameEnd
       ended =
-          frameRun d n (opsIn s d n) (errorsOf (shotBody tray i)) (choicesIn s) (record { rows = t; results = lent .results }) (lent .shifts) (lent .frame)
+          frameRun d n (opsIn s d n) (errorsOf (shotBody tray i)) (choicesIn s) (stateOf (rowsIn t) (lent .results)) (lent .shifts) (lent .frame)
 
-      frame-left : frameBook (shotBook d n s tray i) lent ≡ frameEnded (measurementsIn s d n) ended
+      frame-left : frameBook (shotBook d n s tray i) lent ≡ frameEnded (measurementsIn s d n) t ended
       unfolding frameBook frameByAnswer
       frame-left =
           let room : frameBuffersFit n (measurementsIn s d n) lent ≡ true = rw count fitting in
-          rw (accepts, back .operations-back, back .errors-back, back .choices-back, room, same, g .rows)
+          rw (accepts, back .operations-back, back .errors-back, back .choices-back, room, same, g .tableau)
 
       bytes : part (i * w) w filled ≡ ended .verdict ∷ take (2 * measurementsIn s d n) (ended .results)
       bytes =
-          shot-at d n (opsIn s d n) (choicesIn s) t tray out (shotsIn tray) i l (rooms .1)
-          ∙ shot-any d n (omega (arith, dim .low)) (opsIn s d n) (errorsOf (shotBody tray i)) (choicesIn s) t (lent .results) (lent .shifts) (lent .frame)
-          (rooms .0) (rw count (room-of n choices lent fitting .results))
+          shot-at d n (opsIn s d n) (choicesIn s) (rowsIn t) tray out (shotsIn tray) i l (rooms .1)
+          ∙ shot-any d n (omega (arith, dim .low)) (opsIn s d n) (errorsOf (shotBody tray i)) (choicesIn s) (rowsIn t) (lent .results) (lent .shifts) (lent .frame)
+          (omega (arith, length-drop 2 t, rooms .0)) (rw count (room-of n choices lent fitting .results))
 
       shot-runs : ShotRuns d n operations choices s tray i lent filled
       shot-runs =
@@ -162,10 +164,10 @@ tray-counts s tray t out d n operations errors choices e =
     × (left .shifted ≡ verdictsIn 1 (1 + 2 * choices) (left .out) (shotsIn tray)))
     (λ g.
     let ops = opsIn s d n in
-    let filled = filledBy d n ops (choicesIn s) t tray out (shotsIn tray) in
+    let filled = filledBy d n ops (choicesIn s) (rowsIn t) tray out (shotsIn tray) in
     let same = count s tray t out e in
     let all = le-refl (shotsIn tray) in (
-      counts-are d n ops (choicesIn s) t tray (shotsIn tray),
+      counts-are d n ops (choicesIn s) (rowsIn t) tray (shotsIn tray),
       clean-counted s tray t out e g (shotsIn tray) all ∙ ap (λ (x : ℕ). verdictsIn 0 (1 + 2 * x) filled (shotsIn tray)) same,
       shifted-counted s tray t out e g (shotsIn tray) all ∙ ap (λ (x : ℕ). verdictsIn 1 (1 + 2 * x) filled (shotsIn tray)) same,
     ))

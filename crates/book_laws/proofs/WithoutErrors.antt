@@ -32,5 +32,5 @@ without-errors s d n operations choices e t results lent given =
     let whole = sym (take-add (offsetOf s choicesEntry) (lengthOf s choicesEntry) s) ∙ take-all (offsetOf s choicesEntry + lengthOf s choicesEntry) s (omega (arith, lies .ends)) in
     let itself : raisedBook d n s ≡ s = rw (none, raised-none d n dim (opsIn s d n) (m .lists .operations) (choicesIn s) (m .lists .below), by-kind s 3 e) whole in (
       rw itself at (demand3 s d n operations _ choices e t results lent given),
-      rw (frame-left dim given s e refl, none) (verdict-none d n dim (opsIn s d n) (m .lists .operations) (choicesIn s) _ _ _),
+      rw (frame-left given s e refl, none) (verdict-none d n dim (opsIn s d n) (m .lists .operations) (choicesIn s) _ _ _),
     )

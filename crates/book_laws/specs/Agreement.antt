@@ -2,8 +2,9 @@
 -- operations and errors that it may hold. The statements are proved in proofs/.
 use mathlib.Core.Path.{_≡_}
 use mathlib.Core.List.{List, _++_}
-use Prim.Native.Nat.{ℕ, _+_, _*_, _<_}
+use Prim.Native.Nat.{ℕ, _*_, _<_}
 use lib.ListN.{length, getD, take}
+use Rattle.saved_tableau.specs.Saved.{tableauBytes}
 use Rattle.book_body.specs.Body.{accepted}
 use Rattle.book.specs.Book.{choicesEntry, offsetOf, readBook, bodyOf}
 use Rattle.book.specs.Decoded.{opsIn, errorsIn, choicesIn, measurementsIn}
@@ -32,17 +33,17 @@ SecondAccepted = (s : List ℕ) (d n operations errors choices : ℕ) → readBo
     → SecondBook d n operations errors choices s
 
 -- Both runs end without a refusal and are alike in the number of measurements, every result, every mark free or certain, and
--- every byte of the final tableau, phases included.
+-- every byte of the final tableau, phases included, both leading bytes included.
 pub record Alike (n measurements : ℕ) (direct : DirectLeft) (framed : FrameLeft) : Type 0 where
   pub direct-ends : direct .number ≡ 0
   pub frame-ends : framed .number ≡ 0
   pub direct-count : direct .place ≡ measurements
   pub frame-count : framed .place ≡ measurements
   pub results : (i : ℕ) → i < 2 * measurements → getD (direct .results) i 0 ≡ getD (framed .left .results) i 0
-  pub tableau : (i : ℕ) → i < 2 * n * (2 * n + 1) → getD (direct .tableau) i 0 ≡ getD (framed .left .tableau) i 0
+  pub tableau : (i : ℕ) → i < tableauBytes n → getD (direct .tableau) i 0 ≡ getD (framed .left .tableau) i 0
 
--- For every accepted book, every start tableau valid for its d and n, and buffers long enough: a direct run of the second book
--- and a frame run of the first, each on its own copy of that tableau.
+-- For every accepted book, every valid start tableau whose two bytes are the book's, and buffers long enough: a direct run of the
+-- second book and a frame run of the first, each on its own copy of that tableau.
 abbrev pub Demand3 : Type 0
 Demand3 = (s : List ℕ) (d n operations errors choices : ℕ) → readBook s ≡ accepted d n operations errors choices
     → (t results : List ℕ) (lent : Buffers) → Lent d n (measurementsIn s d n) t results lent

@@ -4,6 +4,7 @@ use mathlib.Core.Logic.{_↔_}
 use mathlib.Core.List.{List}
 use Prim.Native.Nat.{ℕ}
 use Rattle.measurement_laws.specs.Stabilizers.{SameSet}
+use Rattle.saved_tableau.specs.Saved.{rowsIn}
 use Rattle.book_body.specs.Body.{accepted}
 use Rattle.book.specs.Book.{readBook}
 use Rattle.book.specs.Decoded.{measurementsIn}
@@ -17,10 +18,10 @@ use Rattle.book_laws.specs.Agreement.{Alike}
 pub record Compared (d n : ℕ) (clean : DirectLeft) (framed : FrameLeft) : Type 0 where
   pub clean-ends : clean .number ≡ 0
   pub frame-ends : framed .number ≡ 0
-  pub exactly : (framed .verdict ≡ 0) ↔ SameSet d n (framed .left .tableau) (clean .tableau)
+  pub exactly : (framed .verdict ≡ 0) ↔ SameSet d n (rowsIn (framed .left .tableau)) (rowsIn (clean .tableau))
 
--- For every accepted book, every start tableau valid for its d and n, and buffers long enough: the frame run, and a direct run of
--- the same book, choices and start tableau with its errors taken out, each on its own copy of that tableau.
+-- For every accepted book, every valid start tableau whose two bytes are the book's, and buffers long enough: the frame run, and a
+-- direct run of the same book, choices and start tableau with its errors taken out, each on its own copy of that tableau.
 abbrev pub CleanExactly : Type 0
 CleanExactly = (s : List ℕ) (d n operations errors choices : ℕ) → readBook s ≡ accepted d n operations errors choices
     → (t results : List ℕ) (lent : Buffers) → Lent d n (measurementsIn s d n) t results lent

@@ -1,20 +1,23 @@
--- Validity survives a book: what either run leaves, if it does not refuse, passes the tableau test for the book's d and n. The
--- statements are proved in proofs/.
+-- Validity survives: what the layer and either run leave, if they do not refuse, passes the tableau test, and a run leaves the two bytes
+-- before the rows as they are. The statements are proved in proofs/.
 use mathlib.Core.Path.{_≡_}
 use mathlib.Core.List.{List}
 use Prim.Native.Nat.{ℕ}
-use Rattle.validity.specs.Validity.{testNumber}
-use Rattle.book_body.specs.Body.{accepted}
-use Rattle.book.specs.Book.{readBook}
+use lib.ListN.{take}
+use Rattle.saved_tableau.specs.Layer.{layerNumber, layerLeaves}
+use Rattle.saved_tableau.specs.Test.{testNumber}
 use Rattle.direct_run.specs.DirectBook.{directBook}
 use Rattle.frame_run.specs.FrameBook.{Buffers, frameBook}
 
+abbrev pub LayerLeavesValid : Type 0
+LayerLeavesValid = (d n : ℕ) (t : List ℕ) → layerNumber d n t ≡ 0 → testNumber (layerLeaves d n t) ≡ 0
+
 abbrev pub DirectLeavesValid : Type 0
-DirectLeavesValid = (s : List ℕ) (d n operations errors choices : ℕ) → readBook s ≡ accepted d n operations errors choices
-    → (t results : List ℕ) → directBook s t results .number ≡ 0
-    → testNumber d n (directBook s t results .tableau) ≡ 0
+DirectLeavesValid = (s t results : List ℕ) → directBook s t results .number ≡ 0
+    → (testNumber (directBook s t results .tableau) ≡ 0)
+    × (take 2 (directBook s t results .tableau) ≡ take 2 t)
 
 abbrev pub FrameLeavesValid : Type 0
-FrameLeavesValid = (s : List ℕ) (d n operations errors choices : ℕ) → readBook s ≡ accepted d n operations errors choices
-    → (lent : Buffers) → frameBook s lent .number ≡ 0
-    → testNumber d n (frameBook s lent .left .tableau) ≡ 0
+FrameLeavesValid = (s : List ℕ) (lent : Buffers) → frameBook s lent .number ≡ 0
+    → (testNumber (frameBook s lent .left .tableau) ≡ 0)
+    × (take 2 (frameBook s lent .left .tableau) ≡ take 2 (lent .tableau))

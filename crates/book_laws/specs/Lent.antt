@@ -2,17 +2,19 @@
 use mathlib.Core.Path.{_≡_}
 use mathlib.Core.Bool.{true}
 use mathlib.Core.List.{List}
-use Prim.Native.Nat.{ℕ, _+_, _*_, _<_, _≤_}
+use Prim.Native.Nat.{ℕ, _*_, _<_, _≤_}
 use lib.ListN.{length, getD}
-use Rattle.validity.specs.Validity.{valid}
+use Rattle.saved_tableau.specs.Saved.{dimensionIn, quditsIn, tableauBytes, selfValid}
 use Rattle.frame_run.specs.FrameBook.{Buffers}
 
--- A start tableau valid for d and n, each run with its own copy of it, and buffers long enough. Other bytes may differ.
+-- A valid start tableau whose two bytes are d and n, each run with its own copy of it, and buffers long enough. Other bytes may differ.
 pub record Lent (d n measurements : ℕ) (t results : List ℕ) (lent : Buffers) : Type 0 where
-  pub start-room : 2 * n * (2 * n + 1) ≤ length (lent .tableau)
-  pub start-valid : valid d n (lent .tableau) ≡ true
-  pub copy-room : 2 * n * (2 * n + 1) ≤ length t
-  pub copied : (i : ℕ) → i < 2 * n * (2 * n + 1) → getD t i 0 ≡ getD (lent .tableau) i 0
+  pub start-room : tableauBytes n ≤ length (lent .tableau)
+  pub start-valid : selfValid (lent .tableau) ≡ true
+  pub start-dimension : dimensionIn (lent .tableau) ≡ d
+  pub start-qudits : quditsIn (lent .tableau) ≡ n
+  pub copy-room : tableauBytes n ≤ length t
+  pub copied : (i : ℕ) → i < tableauBytes n → getD t i 0 ≡ getD (lent .tableau) i 0
   pub direct-results : 2 * measurements ≤ length results
   pub frame-results : 2 * measurements ≤ length (lent .results)
   pub shifts-room : 2 * n ≤ length (lent .shifts)

@@ -5,8 +5,8 @@ use mathlib.Core.Logic.{_≢_}
 use mathlib.Core.List.{List, [], _∷_}
 use Prim.Native.Nat.{ℕ, _<_}
 use Rattle.modular.specs.Dimension.{among}
-use Rattle.layer.specs.Layer.{layerNumber, layerLeaves}
-use Rattle.validity.specs.Validity.{testNumber}
+use Rattle.saved_tableau.specs.Layer.{layerNumber, layerLeaves}
+use Rattle.saved_tableau.specs.Test.{testNumber}
 use Rattle.written_book.specs.Writer.{writeBook}
 use Rattle.direct_run.specs.DirectBook.{directBook}
 use Rattle.frame_run.specs.FrameBook.{Buffers, frameBook}
@@ -27,7 +27,7 @@ writerNumbers = 0 ∷ 2 ∷ 3 ∷ 4 ∷ 5 ∷ 6 ∷ 7 ∷ 8 ∷ []
 -- No call returns a number that is not in its list.
 pub record NumbersListed : Type 0 where
   pub layer : (d n : ℕ) (t : List ℕ) → among (layerNumber d n t) (0 ∷ 2 ∷ 3 ∷ 8 ∷ []) ≡ true
-  pub test : (d n : ℕ) (t : List ℕ) → among (testNumber d n t) (0 ∷ 2 ∷ 3 ∷ 8 ∷ 9 ∷ []) ≡ true
+  pub test : (t : List ℕ) → among (testNumber t) (0 ∷ 2 ∷ 3 ∷ 8 ∷ 9 ∷ []) ≡ true
   pub writer : (d n : ℕ) (ops errors choices out : List ℕ) → among (writeBook d n ops errors choices out .number) writerNumbers ≡ true
   pub direct : (s t results : List ℕ) → among (directBook s t results .number) runNumbers ≡ true
   pub frame : (s : List ℕ) (lent : Buffers) → among (frameBook s lent .number) runNumbers ≡ true

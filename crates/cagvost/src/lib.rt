@@ -1,7 +1,7 @@
 // What the host software calls: layer, tableau test, writer, the two runs and the run of a tray, on numbers and byte slices.
 ghost use mathlib.Core.Path.{_≡_};
-ghost use Rattle.layer.specs.Layer.{layerNumber, layerLeaves};
-ghost use Rattle.validity.specs.Validity.{testNumber};
+ghost use Rattle.saved_tableau.specs.Layer.{layerNumber, layerLeaves};
+ghost use Rattle.saved_tableau.specs.Test.{testNumber};
 ghost use Rattle.written_book.specs.Writer.{writeBook};
 ghost use Rattle.direct_run.specs.DirectBook.{directLeft, directBook};
 ghost use Rattle.frame_run.specs.FrameBook.{buffersOf, frameLeft, frameBook};
@@ -16,15 +16,15 @@ pub extern "C" fn cagvost_layer(t: &mut [u8], d: usize, n: usize) -> Answer
     ensures { λ r. ⌜ (r ≡ record { number = layerNumber d n (now (t .entry)); place = 0 })
         × (now (t .exit) ≡ layerLeaves d n (now (t .entry))) ⌝ }
 {
-    layer::lay(t, d, n)
+    saved_tableau::lay(t, d, n)
 }
 
-// Tests the tableau of n qudits of dimension d: 0, or its refusal by 2, 3, 8 or 9.
+// Tests a tableau for the d and n that it names: 0, or its refusal by 8, 2, 3, 8 or 9.
 #[no_mangle]
-pub extern "C" fn cagvost_test(t: &[u8], d: usize, n: usize) -> Answer
-    ensures { λ r. ⌜ r ≡ record { number = testNumber d n (now (t .entry)); place = 0 } ⌝ }
+pub extern "C" fn cagvost_test(t: &[u8]) -> Answer
+    ensures { λ r. ⌜ r ≡ record { number = testNumber (now (t .entry)); place = 0 } ⌝ }
 {
-    tableau_test::test(t, d, n)
+    saved_tableau::test(t)
 }
 
 // Writes the book of d, n and three bodies, or refuses by 2 to 8.

@@ -12,7 +12,7 @@ use Rattle.row.specs.Generators.{zWith}
 use Rattle.row_laws.specs.Scalar.{scalar}
 use Rattle.search.specs.Search.{firstNot}
 use Rattle.tableau.specs.Tableau.{part, put, eachRow}
-use Rattle.layer.specs.Layer.{zeroTableau}
+use Rattle.zero_tableau.specs.ZeroTableau.{zeroTableau}
 use Rattle.circuit.specs.Circuit.{measured}
 use Rattle.measurement.specs.Look.{pivotOf, combination, weighted, look}
 use Rattle.measurement.specs.Collapse.{collapseRow, collapse}

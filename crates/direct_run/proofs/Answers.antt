@@ -1,9 +1,11 @@
--- What the direct run ends with, and its answer.
+-- What the direct run ends with.
 -- Assumes nothing.
 use mathlib.Core.Path.{_≡_}
 use mathlib.Core.List.{List}
-use Prim.Native.Nat.{ℕ}
+use Prim.Native.Nat.{ℕ, _-_}
 use lib.ListN.{length}
+use borrow.Rule.Slice.PartMut.{putMid}
+use Rattle.saved_tableau.proofs.Rows.{rows-put}
 use Rattle.operation.specs.declared.Operation.{Operation}
 use Rattle.operation.specs.declared.WeylError.{WeylError}
 use Rattle.runs.specs.Run.{stepsFrom}
@@ -18,6 +20,8 @@ pub run-ends : (d n : ℕ) (ops : List Operation) (errors : List WeylError) (cho
 unfolding directRun directErrors
 run-ends d n ops errors choices st e s = rw (← e, s)
 
-pub run-answer : {count measurements : ℕ} {t results : List ℕ} {end : State} → count ≡ measurements → stateOf t results ≡ end
-    → _≡_ {A = DirectLeft} (record { number = 0; place = count; tableau = t; results = results }) (directEnded measurements end)
-run-answer m e = rw (← e, m)
+-- the rows come back behind the same two bytes
+pub tableau-ends : {count measurements : ℕ} (t : List ℕ) {rows results : List ℕ} {end : State} → count ≡ measurements → stateOf rows results ≡ end
+    → _≡_ {A = DirectLeft} (record { number = 0; place = count; tableau = putMid 2 (length t - 2) t rows; results = results })
+    (directEnded measurements t end)
+tableau-ends t {rows} m e = rw (← e, m, rows-put t rows)

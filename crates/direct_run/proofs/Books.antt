@@ -3,16 +3,15 @@
 use mathlib.Core.Path.{_≡_, sym, _∙_}
 use mathlib.Core.Bool.{Bool, true, false, not, and-eq-true-iff}
 use mathlib.Core.List.{List}
-use Prim.Native.Nat.{ℕ, _+_, _*_, _≤_}
+use Prim.Native.Nat.{ℕ, _*_, _≤_}
 use lib.Dec.{leb}
 use lib.ListN.{length}
 use borrow.Author.Tests.{leb-true, not-true, not-false}
-use Rattle.modular.proofs.Listed.{dimension}
-use Rattle.validity.specs.Validity.{Valid, valid}
-use Rattle.validity.proofs.Exactly.{valid-exactly}
+use Rattle.validity.specs.Validity.{Valid}
+use Rattle.saved_tableau.specs.Saved.{rowsIn, tableauBytes, validFor}
+use Rattle.saved_tableau.proofs.Exactly.{valid-rows}
 use Rattle.book.specs.Book.{partOf}
 use Rattle.book.proofs.Handed.{Handed}
-use Rattle.runs.specs.Direct.{stateOf}
 use Rattle.direct_run.specs.DirectBook.{DirectLeft, directBuffersFit, directBodies, directByAnswer, directBook}
 
 module _ (s : List ℕ) {d n choices : ℕ} (g : Handed s d n choices) (t results : List ℕ) where
@@ -27,23 +26,23 @@ module _ (s : List ℕ) {d n choices : ℕ} (g : Handed s d n choices) (t result
     room : directBuffersFit n choices t results ≡ true
     room = sym r ∙ not-false b h
 
-    pub rooms : (2 * n * (2 * n + 1) ≤ length t) × (2 * choices ≤ length results)
+    pub rooms : (tableauBytes n ≤ length t) × (2 * choices ≤ length results)
     rooms =
-        let a = and-eq-true-iff (leb (2 * n * (2 * n + 1)) (length t)) (leb (2 * choices) (length results)) .0 room in
+        let a = and-eq-true-iff (leb (tableauBytes n) (length t)) (leb (2 * choices) (length results)) .0 room in
         (leb-true _ _ (a .0), leb-true _ _ (a .1))
 
     -- 9
-    pub invalid-book : {v : Bool} → v ≡ valid d n t → not v ≡ true
+    pub invalid-book : {v : Bool} → v ≡ validFor d n t → not v ≡ true
         → _≡_ {A = DirectLeft} (record { number = 9; place = 0; tableau = t; results = results }) (directBook s t results)
     unfolding directBook directByAnswer
     invalid-book {v} e k = rw (g .reads, g .measurements, room, sym e ∙ not-true v k)
 
     -- not 9
-    pub tested : {v : Bool} → v ≡ valid d n t → not v ≡ false → Valid d n t
-    tested {v} e k = valid-exactly d n (dimension d (g .dimension)) t (rooms .0) .0 (sym e ∙ not-false v k)
+    pub tested : {v : Bool} → v ≡ validFor d n t → not v ≡ false → Valid d n (rowsIn t)
+    tested {v} e k = valid-rows t (rooms .0) (sym e ∙ not-false v k)
 
-    pub run-book : {v : Bool} → v ≡ valid d n t → not v ≡ false → {left : DirectLeft}
-        → left ≡ directBodies d n (partOf s 4) (partOf s 10) (partOf s 16) (stateOf t results)
+    pub run-book : {v : Bool} → v ≡ validFor d n t → not v ≡ false → {left : DirectLeft}
+        → left ≡ directBodies d n (partOf s 4) (partOf s 10) (partOf s 16) t results
         → left ≡ directBook s t results
     unfolding directBook directByAnswer
     run-book {v} e k l =

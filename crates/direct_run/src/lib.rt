@@ -3,6 +3,7 @@ ghost use mathlib.Core.Path.{_≡_};
 ghost use Prim.Native.Nat.{_*_, _≤_};
 ghost use lib.ListN.{length};
 ghost use Rattle.validity.specs.Validity.{Valid};
+ghost use Rattle.saved_tableau.specs.Saved.{rowsIn, tableauBytes};
 ghost use Rattle.circuit.specs.Circuit.{measurementCount};
 ghost use Rattle.book.specs.Decoded.{operationsOf, errorsOf, Bodies};
 ghost use Rattle.runs.specs.Direct.{stateOf, directRun};
@@ -12,7 +13,7 @@ use answer::Answer;
 use book_body::Reading;
 use runs::Position;
 
-// All operations, then the errors after them. The number of measurements.
+// All operations on the rows t, then the errors after them. The number of measurements.
 fn run_by(
     t: &mut [u8],
     results: &mut [u8],
@@ -46,8 +47,31 @@ fn run_by(
     at.measurements
 }
 
-// The run of three bodies, by tables that are made once for all its steps: 0 and the number of measurements.
+// The run of three bodies on rows, by tables that are made once for all its steps. The number of measurements.
 fn run(
+    rows: &mut [u8],
+    results: &mut [u8],
+    ops: &[u8],
+    errors: &[u8],
+    choices: &[u8],
+    d: u8,
+    n: usize,
+) -> usize
+    requires { ⌜ Bodies d n (now ops) (now errors) (now choices)
+        × (2 * length (now choices) ≤ length (now results))
+        × Valid d n (now rows) ⌝ }
+    ensures { λ r. ⌜ (stateOf (now (rows .exit)) (now (results .exit))
+        ≡ directRun d n (operationsOf d n (now (ops .entry))) (errorsOf (now (errors .entry))) (now (choices .entry))
+        (stateOf (now (rows .entry)) (now (results .entry))))
+        × (r ≡ measurementCount (operationsOf d n (now (ops .entry)))) ⌝ }
+{
+    let mut tables = [0u8; 1152];
+    tables::make(&mut tables, d);
+    run_by(rows, results, ops, errors, choices, &tables, d, n)
+}
+
+// The run of three bodies on a tableau, whose first two bytes stay: 0 and the number of measurements.
+fn run_tableau(
     t: &mut [u8],
     results: &mut [u8],
     ops: &[u8],
@@ -58,13 +82,12 @@ fn run(
 ) -> Answer
     requires { ⌜ Bodies d n (now ops) (now errors) (now choices)
         × (2 * length (now choices) ≤ length (now results))
-        × Valid d n (now t) ⌝ }
+        × (tableauBytes n ≤ length (now t))
+        × Valid d n (rowsIn (now t)) ⌝ }
     ensures { λ r. ⌜ directLeft r (now (t .exit)) (now (results .exit))
-        ≡ directBodies d n (now (ops .entry)) (now (errors .entry)) (now (choices .entry)) (stateOf (now (t .entry)) (now (results .entry))) ⌝ }
+        ≡ directBodies d n (now (ops .entry)) (now (errors .entry)) (now (choices .entry)) (now (t .entry)) (now (results .entry)) ⌝ }
 {
-    let mut tables = [0u8; 1152];
-    tables::make(&mut tables, d);
-    let place = run_by(t, results, ops, errors, choices, &tables, d, n);
+    let place = run(&mut t[2..], results, ops, errors, choices, d, n);
     Answer { number: 0, place }
 }
 
@@ -73,7 +96,7 @@ fn buffers_fit(t: &[u8], results: &[u8], measurements: usize, n: usize) -> bool
     requires { ⌜ n ≤ 64 ⌝ }
     ensures { λ r. ⌜ r ≡ directBuffersFit n measurements (now (t .entry)) (now (results .entry)) ⌝ }
 {
-    (2 * n * (2 * n + 1) <= t.len()) & (measurements <= results.len() / 2)
+    (2 * n * (2 * n + 1) + 2 <= t.len()) & (measurements <= results.len() / 2)
 }
 
 // The direct run of a book from the lent tableau: refusals 1 to 7, then 8, then 9; or 0 and the number of measurements.
@@ -99,7 +122,7 @@ pub fn direct_run(book: &[u8], t: &mut [u8], results: &mut [u8]) -> Answer
             place: 0,
         };
     }
-    if !tableau_test::is_valid(t, d, n) {
+    if !saved_tableau::is_valid_for(t, d, n) {
         return Answer {
             number: 9,
             place: 0,
@@ -108,5 +131,5 @@ pub fn direct_run(book: &[u8], t: &mut [u8], results: &mut [u8]) -> Answer
     let ops = book::operations(book);
     let errors = book::errors(book);
     let choices = book::choices(book);
-    run(t, results, ops, errors, choices, d, n)
+    run_tableau(t, results, ops, errors, choices, d, n)
 }

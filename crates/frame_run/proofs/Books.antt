@@ -3,14 +3,14 @@
 use mathlib.Core.Path.{_≡_, sym, _∙_}
 use mathlib.Core.Bool.{Bool, true, false, not}
 use mathlib.Core.List.{List}
-use Prim.Native.Nat.{ℕ, _+_, _*_}
+use Prim.Native.Nat.{ℕ, _*_}
 use lib.Dec.{leb}
 use lib.ListN.{length}
 use borrow.Author.Tests.{leb-true, not-true, not-false}
-use Rattle.modular.proofs.Listed.{dimension}
 use Rattle.search.proofs.Search.{both}
-use Rattle.validity.specs.Validity.{Valid, valid}
-use Rattle.validity.proofs.Exactly.{valid-exactly}
+use Rattle.validity.specs.Validity.{Valid}
+use Rattle.saved_tableau.specs.Saved.{rowsIn, tableauBytes, validFor}
+use Rattle.saved_tableau.proofs.Exactly.{valid-rows}
 use Rattle.book.specs.Book.{partOf}
 use Rattle.book.proofs.Handed.{Handed}
 use Rattle.frame_run.specs.FrameBook.{Buffers, FrameLeft, frameBuffersFit, Room, frameRefused, frameBodies, frameByAnswer, frameBook}
@@ -18,7 +18,7 @@ use Rattle.frame_run.specs.FrameBook.{Buffers, FrameLeft, frameBuffersFi
 pub room-of : (n measurements : ℕ) (lent : Buffers) → frameBuffersFit n measurements lent ≡ true → Room n measurements lent
 unfolding frameBuffersFit
 room-of n measurements lent e =
-    let a = both (leb (2 * n * (2 * n + 1)) (length (lent .tableau))) _ e in
+    let a = both (leb (tableauBytes n) (length (lent .tableau))) _ e in
     let b = both (leb (2 * measurements) (length (lent .results))) _ (a .1) in
     let c = both (leb (2 * n) (length (lent .shifts))) (leb (2 * n) (length (lent .frame))) (b .1) in
     record {
@@ -43,17 +43,17 @@ module _ (s : List ℕ) {d n choices : ℕ} (g : Handed s d n choices) (lent : B
     room = room-of n choices lent fitting
 
     -- 9
-    pub invalid-book : {v : Bool} → v ≡ valid d n (lent .tableau) → not v ≡ true → frameRefused 9 0 lent ≡ frameBook s lent
+    pub invalid-book : {v : Bool} → v ≡ validFor d n (lent .tableau) → not v ≡ true → frameRefused 9 0 lent ≡ frameBook s lent
     unfolding frameBook frameByAnswer
     invalid-book {v} e k = rw (g .reads, g .measurements, fitting, sym e ∙ not-true v k)
 
     -- not 9
-    module _ {v : Bool} (e : v ≡ valid d n (lent .tableau)) (k : not v ≡ false) where
-      tested : valid d n (lent .tableau) ≡ true
+    module _ {v : Bool} (e : v ≡ validFor d n (lent .tableau)) (k : not v ≡ false) where
+      tested : validFor d n (lent .tableau) ≡ true
       tested = sym e ∙ not-false v k
 
-      pub rows : Valid d n (lent .tableau)
-      rows = valid-exactly d n (dimension d (g .dimension)) (lent .tableau) (room .tableau) .0 tested
+      pub rows : Valid d n (rowsIn (lent .tableau))
+      rows = valid-rows (lent .tableau) (room .tableau) tested
 
       pub run-book : {left : FrameLeft}
           → left ≡ frameBodies d n (partOf s 4) (partOf s 10) (partOf s 16) lent

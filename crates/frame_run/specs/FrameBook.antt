@@ -1,11 +1,11 @@
 -- The frame run of a book: what is returned, and what is left in the buffers.
 use mathlib.Core.Bool.{Bool, _&&_}
 use mathlib.Core.List.{List}
-use Prim.Native.Nat.{ℕ, _+_, _*_, _≤_}
+use Prim.Native.Nat.{ℕ, _*_, _≤_}
 use lib.Dec.{leb}
 use lib.ListN.{length}
 use Rattle.search.specs.Search.{unless}
-use Rattle.validity.specs.Validity.{valid}
+use Rattle.saved_tableau.specs.Saved.{rowsIn, withRows, tableauBytes, validFor}
 use Rattle.book_body.specs.Body.{ReaderAnswer, refused, accepted}
 use Rattle.circuit.specs.Circuit.{measurementCount}
 use Rattle.book.specs.Book.{readBook, bodyOf}
@@ -30,49 +30,56 @@ pub record FrameLeft : Type 0 where
   pub verdict : ℕ
   pub left : Buffers
 
+-- what a run on rows leaves in its buffers, with its answer's verdict
+abbrev pub endOf : FrameAnswer → (rows results shifts frame : List ℕ) → FrameEnd
+endOf answer rows results shifts frame =
+    record { rows = rows; results = results; shifts = shifts; frame = frame; verdict = answer .verdict }
+
 -- an answer, with what the lent buffers hold when it is given
 abbrev pub frameLeft : FrameAnswer → Buffers → FrameLeft
 frameLeft answer lent = record { number = answer .number; place = answer .place; verdict = answer .verdict; left = lent }
 
--- Needed: tableau 2n(2n+1) bytes; results 2 per measurement; the frame run also 2n for shifts and 2n for the frame.
+-- Needed: the tableau of the book's n; results 2 per measurement; the frame run also 2n for shifts and 2n for the frame.
 unfoldable pub frameBuffersFit : ℕ → ℕ → Buffers → Bool
 frameBuffersFit n measurements lent =
-    leb (2 * n * (2 * n + 1)) (length (lent .tableau)) && (leb (2 * measurements) (length (lent .results))
+    leb (tableauBytes n) (length (lent .tableau)) && (leb (2 * measurements) (length (lent .results))
     && (leb (2 * n) (length (lent .shifts)) && leb (2 * n) (length (lent .frame))))
 
 -- the same as facts, for a run that is past 8
 pub record Room (n measurements : ℕ) (lent : Buffers) : Type 0 where
-  pub tableau : 2 * n * (2 * n + 1) ≤ length (lent .tableau)
+  pub tableau : tableauBytes n ≤ length (lent .tableau)
   pub results : 2 * measurements ≤ length (lent .results)
   pub shifts : 2 * n ≤ length (lent .shifts)
   pub frame : 2 * n ≤ length (lent .frame)
 
--- Success returns 0, the number of measurements and, as a third number, the verdict: 0 clean, 1 shifted.
-abbrev pub frameEnded : ℕ → FrameEnd → FrameLeft
-frameEnded measurements end =
+-- Success returns 0, the number of measurements and, as a third number, the verdict: 0 clean, 1 shifted. The tableau's first two bytes
+-- stay as they are.
+abbrev pub frameEnded : ℕ → List ℕ → FrameEnd → FrameLeft
+frameEnded measurements t end =
     record {
       number = 0;
       place = measurements;
       verdict = end .verdict;
-      left = record { tableau = end .rows; results = end .results; shifts = end .shifts; frame = end .frame };
+      left = record { tableau = withRows t (end .rows); results = end .results; shifts = end .shifts; frame = end .frame };
     }
 
 -- A refusal has the verdict 0 and leaves every buffer unchanged.
 abbrev pub frameRefused : ℕ → ℕ → Buffers → FrameLeft
 frameRefused number place lent = record { number = number; place = place; verdict = 0; left = lent }
 
--- what a run of three bodies ends with
+-- what a run of three bodies ends with, from the tableau's rows
 abbrev pub frameBodies : ℕ → ℕ → List ℕ → List ℕ → List ℕ → Buffers → FrameLeft
 frameBodies d n ops errors choices lent =
-    frameEnded (measurementCount (operationsOf d n ops))
-    (frameRun d n (operationsOf d n ops) (errorsOf errors) choices (stateOf (lent .tableau) (lent .results)) (lent .shifts) (lent .frame))
+    frameEnded (measurementCount (operationsOf d n ops)) (lent .tableau)
+    (frameRun d n (operationsOf d n ops) (errorsOf errors) choices (stateOf (rowsIn (lent .tableau)) (lent .results)) (lent .shifts)
+    (lent .frame))
 
--- 1 to 7, then 8, then 9
+-- 1 to 7, then 8, then 9: a tableau that is not valid, or whose d or n isn't the book's
 unfoldable pub frameByAnswer : List ℕ → Buffers → ReaderAnswer → FrameLeft
 frameByAnswer s lent (refused number place) = frameRefused number place lent
 frameByAnswer s lent (accepted d n operations errors choices) =
     unless (frameBuffersFit n (measurementsIn s d n) lent) (frameRefused 8 0 lent)
-    (unless (valid d n (lent .tableau)) (frameRefused 9 0 lent)
+    (unless (validFor d n (lent .tableau)) (frameRefused 9 0 lent)
     (frameBodies d n (bodyOf s 1) (bodyOf s 2) (bodyOf s 3) lent))
 
 unfoldable pub frameBook : List ℕ → Buffers → FrameLeft

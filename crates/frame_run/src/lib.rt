@@ -1,11 +1,14 @@
 // The frame run.
 ghost use mathlib.Core.Path.{_≡_};
-ghost use Prim.Native.Nat.{_≤_};
+ghost use Prim.Native.Nat.{_*_, _≤_};
 ghost use lib.ListN.{length};
 ghost use Rattle.validity.specs.Validity.{Valid};
-ghost use Rattle.book.specs.Decoded.{Bodies};
-ghost use Rattle.runs.specs.Frame.{noFrame};
-ghost use Rattle.frame_run.specs.FrameBook.{buffersOf, frameLeft, frameBuffersFit, Room, frameBodies, frameBook};
+ghost use Rattle.saved_tableau.specs.Saved.{rowsIn};
+ghost use Rattle.circuit.specs.Circuit.{measurementCount};
+ghost use Rattle.book.specs.Decoded.{operationsOf, errorsOf, Bodies};
+ghost use Rattle.runs.specs.Direct.{stateOf};
+ghost use Rattle.runs.specs.Frame.{noFrame, frameRun};
+ghost use Rattle.frame_run.specs.FrameBook.{buffersOf, endOf, frameLeft, frameBuffersFit, Room, frameBodies, frameBook};
 use book_body::Reading;
 
 // What the frame run returns: 0, the number of measurements and the verdict, 0 clean or 1 shifted; or a refusal's number, its
@@ -29,7 +32,7 @@ fn refused(number: usize, place: usize) -> FrameAnswer
 
 // The frame run: the clean run, which has no errors; then the frame, none at first, carried over the circuit; then the shifts.
 fn run_in(
-    t: &mut [u8],
+    rows: &mut [u8],
     results: &mut [u8],
     shifts: &mut [u8],
     out: &mut [u8],
@@ -41,16 +44,20 @@ fn run_in(
     n: usize,
 ) -> FrameAnswer
     requires { ⌜ Bodies d n (now ops) (now errors) (now choices)
-        × Room n (length (now choices)) (buffersOf (now t) (now results) (now shifts) (now out))
+        × (2 * length (now choices) ≤ length (now results))
+        × (2 * n ≤ length (now shifts))
+        × (2 * n ≤ length (now out))
         × (now frame ≡ noFrame n)
-        × Valid d n (now t) ⌝ }
-    ensures { λ r. ⌜ frameLeft r (buffersOf (now (t .exit)) (now (results .exit)) (now (shifts .exit)) (now (out .exit)))
-        ≡ frameBodies d n (now (ops .entry)) (now (errors .entry)) (now (choices .entry))
-        (buffersOf (now (t .entry)) (now (results .entry)) (now (shifts .entry)) (now (out .entry))) ⌝ }
+        × Valid d n (now rows) ⌝ }
+    ensures { λ r. ⌜ (endOf r (now (rows .exit)) (now (results .exit)) (now (shifts .exit)) (now (out .exit))
+        ≡ frameRun d n (operationsOf d n (now (ops .entry))) (errorsOf (now (errors .entry))) (now (choices .entry))
+        (stateOf (now (rows .entry)) (now (results .entry))) (now (shifts .entry)) (now (out .entry)))
+        × (r .number ≡ 0)
+        × (r .place ≡ measurementCount (operationsOf d n (now (ops .entry)))) ⌝ }
 {
-    let place = clean_run::run(t, results, ops, choices, d, n);
+    let place = clean_run::run(rows, results, ops, choices, d, n);
     frame_carry::carry(frame, results, ops, errors, d, n);
-    let verdict = frame_end::finish(t, shifts, out, frame, d, n);
+    let verdict = frame_end::finish(rows, shifts, out, frame, d, n);
     FrameAnswer {
         number: 0,
         place,
@@ -58,8 +65,47 @@ fn run_in(
     }
 }
 
-// The frame run of three bodies, with room for the longest frame.
+// The frame run of three bodies on rows, with room for the longest frame.
 fn run(
+    rows: &mut [u8],
+    results: &mut [u8],
+    shifts: &mut [u8],
+    out: &mut [u8],
+    ops: &[u8],
+    errors: &[u8],
+    choices: &[u8],
+    d: u8,
+    n: usize,
+) -> FrameAnswer
+    requires { ⌜ Bodies d n (now ops) (now errors) (now choices)
+        × (2 * length (now choices) ≤ length (now results))
+        × (2 * n ≤ length (now shifts))
+        × (2 * n ≤ length (now out))
+        × Valid d n (now rows) ⌝ }
+    ensures { λ r. ⌜ (endOf r (now (rows .exit)) (now (results .exit)) (now (shifts .exit)) (now (out .exit))
+        ≡ frameRun d n (operationsOf d n (now (ops .entry))) (errorsOf (now (errors .entry))) (now (choices .entry))
+        (stateOf (now (rows .entry)) (now (results .entry))) (now (shifts .entry)) (now (out .entry)))
+        × (r .number ≡ 0)
+        × (r .place ≡ measurementCount (operationsOf d n (now (ops .entry)))) ⌝ }
+{
+    let mut frame = [0u8; 128];
+    let powers = 2 * n;
+    run_in(
+        rows,
+        results,
+        shifts,
+        out,
+        &mut frame[..powers],
+        ops,
+        errors,
+        choices,
+        d,
+        n,
+    )
+}
+
+// The frame run of three bodies on a tableau, whose first two bytes stay.
+fn run_tableau(
     t: &mut [u8],
     results: &mut [u8],
     shifts: &mut [u8],
@@ -72,19 +118,16 @@ fn run(
 ) -> FrameAnswer
     requires { ⌜ Bodies d n (now ops) (now errors) (now choices)
         × Room n (length (now choices)) (buffersOf (now t) (now results) (now shifts) (now out))
-        × Valid d n (now t) ⌝ }
+        × Valid d n (rowsIn (now t)) ⌝ }
     ensures { λ r. ⌜ frameLeft r (buffersOf (now (t .exit)) (now (results .exit)) (now (shifts .exit)) (now (out .exit)))
         ≡ frameBodies d n (now (ops .entry)) (now (errors .entry)) (now (choices .entry))
         (buffersOf (now (t .entry)) (now (results .entry)) (now (shifts .entry)) (now (out .entry))) ⌝ }
 {
-    let mut frame = [0u8; 128];
-    let powers = 2 * n;
-    run_in(
-        t,
+    run(
+        &mut t[2..],
         results,
         shifts,
         out,
-        &mut frame[..powers],
         ops,
         errors,
         choices,
@@ -106,7 +149,7 @@ fn buffers_fit(
     ensures { λ r. ⌜ r
         ≡ frameBuffersFit n measurements (buffersOf (now (t .entry)) (now (results .entry)) (now (shifts .entry)) (now (frame .entry))) ⌝ }
 {
-    (2 * n * (2 * n + 1) <= t.len())
+    (2 * n * (2 * n + 1) + 2 <= t.len())
         & ((measurements <= results.len() / 2) & ((2 * n <= shifts.len()) & (2 * n <= frame.len())))
 }
 
@@ -134,11 +177,11 @@ pub fn frame_run(
     if !buffers_fit(t, results, shifts, frame, numbers.choices, n) {
         return refused(8, 0);
     }
-    if !tableau_test::is_valid(t, d, n) {
+    if !saved_tableau::is_valid_for(t, d, n) {
         return refused(9, 0);
     }
     let ops = book::operations(book);
     let errors = book::errors(book);
     let choices = book::choices(book);
-    run(t, results, shifts, frame, ops, errors, choices, d, n)
+    run_tableau(t, results, shifts, frame, ops, errors, choices, d, n)
 }

@@ -9,6 +9,8 @@ use Rattle.conjugation.specs.Conjugation.{RowSpelled, GateConjugates, GateDeter
 use Rattle.conjugation.specs.Repeated.{RowRepeats, RowsRepeat, FrameRepeats}
 use Rattle.validity.specs.Validity.{ValidExactly}
 use Rattle.validity_laws.specs.Keeping.{ZeroValid, GateKeepsValid, ErrorKeepsValid}
+use Rattle.saved_tableau.specs.Saved.{SelfValidExactly}
+use Rattle.saved_tableau.specs.Test.{TestExactly}
 use Rattle.measurement_laws.specs.Measurement.{AllDifferent, CollapseKeepsValid, CertainIsZ, CertainExactly, OneMember, CollapseGenerates}
 use Rattle.book_entries.specs.Entry.{DecodedExactly}
 use Rattle.book.specs.Decoded.{AcceptedMeans}
@@ -20,7 +22,7 @@ use Rattle.run_laws.specs.Carrying.{StepKeepsValid, RunKeepsValid, FrameKeepsVa
 use Rattle.shots.specs.Clean.{CleanServes}
 use Rattle.book_laws.specs.Agreement.{SecondAccepted, Demand3}
 use Rattle.book_laws.specs.Clean.{CleanExactly, WithoutErrors}
-use Rattle.book_laws.specs.LeavesValid.{DirectLeavesValid, FrameLeavesValid}
+use Rattle.book_laws.specs.LeavesValid.{LayerLeavesValid, DirectLeavesValid, FrameLeavesValid}
 use Rattle.book_laws.specs.Refusals.{NumbersListed, WriterNamesBody, LayerUnchanged, WriterUnchanged, DirectUnchanged, FrameUnchanged, TrayUnchanged}
 use Rattle.book_laws.specs.Tray.{ShotsAreFrameRuns, TrayKeepsRest, TrayCounts, OwnErrorsUnused}
 use Rattle.book_laws.proofs.Refusals as refusals
@@ -47,6 +49,7 @@ use Rattle.conjugation.proofs.Errors as errors
 use Rattle.conjugation.proofs.Repeated as repeated
 use Rattle.validity.proofs.Exactly as exactly
 use Rattle.validity_laws.proofs.Keeping as kept
+use Rattle.saved_tableau.proofs.Exactly as saved
 use Rattle.measurement_laws.proofs.Combination as combination
 use Rattle.measurement_laws.proofs.Certain as certain
 use Rattle.measurement_laws.proofs.Free as free
@@ -231,9 +234,17 @@ error-on-frame = errors.error-on-frame
 pub error-frame-pairs : ErrorFramePairs
 error-frame-pairs = errors.error-frame-pairs
 
--- What the tableau test computes holds exactly if the tableau is valid.
+-- What the test of rows computes holds exactly if they are valid for d and n.
 pub valid-exactly : ValidExactly
 valid-exactly = exactly.valid-exactly
+
+-- The same for a tableau with d and n before its rows: exactly if these two are in range, and the rows are valid for them.
+pub self-valid-exactly : SelfValidExactly
+self-valid-exactly = saved.self-valid-exactly
+
+-- The tableau test returns 0 exactly for a valid tableau that has all its bytes.
+pub test-exactly : TestExactly
+test-exactly = saved.test-exactly
 
 -- The zero tableau is valid.
 pub zero-valid : ZeroValid
@@ -263,11 +274,15 @@ run-keeps-valid = steps.run-keeps-valid
 pub frame-keeps-valid : FrameKeepsValid
 frame-keeps-valid = clean.frame-keeps-valid
 
--- What a direct run of a book leaves passes the tableau test.
+-- What the layer leaves passes the tableau test.
+pub layer-leaves-valid : LayerLeavesValid
+layer-leaves-valid = left.layer-leaves-valid
+
+-- What a direct run of a book leaves passes the tableau test, with the same two bytes before its rows.
 pub direct-leaves-valid : DirectLeavesValid
 direct-leaves-valid = left.direct-leaves-valid
 
--- What a frame run of a book leaves passes the tableau test.
+-- What a frame run of a book leaves passes the tableau test, with the same two bytes before its rows.
 pub frame-leaves-valid : FrameLeavesValid
 frame-leaves-valid = left.frame-leaves-valid
 
@@ -293,8 +308,9 @@ collapse-generates = generates.collapse-generates
 
 -- Demand 3: a Weyl error, wherever it strikes, may be carried to the end.
 
--- For every accepted book, valid start tableau and buffers long enough, the direct run of the second book and the frame run of the first
--- end without a refusal and are alike in the number of measurements, every result, every mark and every byte of the tableau.
+-- For every accepted book, valid start tableau whose two bytes are the book's, and buffers long enough, the direct run of the second book
+-- and the frame run of the first end without a refusal and are alike in the number of measurements, every result, every mark and every
+-- byte of the tableau, both leading bytes included.
 pub demand3 : Demand3
 demand3 = whole.demand3
 

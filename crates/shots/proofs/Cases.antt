@@ -13,6 +13,7 @@ use Rattle.operation.specs.Gate.{gatePowers, gatePhase, gateRow}
 use Rattle.operation.specs.Error.{errorFrame}
 use Rattle.row_laws.specs.Scalar.{scalar}
 use Rattle.validity.specs.Validity.{rowValid, valid}
+use Rattle.saved_tableau.specs.Saved.{selfValid, validFor}
 use Rattle.measurement.specs.Look.{pivotOf, combination, weighted, look}
 use Rattle.measurement.specs.Collapse.{collapseRow, collapse}
 use Rattle.circuit.specs.Circuit.{measured}
@@ -37,7 +38,7 @@ tray = 3 ∷ 0 ∷ 0 ∷ 0 ∷ 5 ∷ 0 ∷ 5 ∷ 0 ∷ 2 ∷ 0 ∷ 0 ∷ 1 ∷ 0
 
 -- the zero tableau
 abbrev t : List ℕ
-t = 1 ∷ 0 ∷ 0 ∷ 0 ∷ 1 ∷ 0 ∷ []
+t = 3 ∷ 1 ∷ 1 ∷ 0 ∷ 0 ∷ 0 ∷ 1 ∷ 0 ∷ []
 
 abbrev sevens : ℕ → List ℕ
 sevens k = replicate k 7
@@ -52,7 +53,7 @@ pub returned :
       out = 0 ∷ 0 ∷ 0 ∷ 2 ∷ 1 ∷ 1 ∷ 0 ∷ 0 ∷ 0 ∷ 1 ∷ 1 ∷ 0 ∷ 0 ∷ 1 ∷ 1 ∷ 7 ∷ [];
     })
     × (trayBook book (0 ∷ 0 ∷ []) t (sevens 1) ≡ record { number = 0; place = 0; shifted = 0; out = 7 ∷ [] })
-unfolding listed inverse powerOf all firstNot tab rowOf dot product power pairing zWith scalar part put eachRow gatePowers gatePhase gateRow errorFrame rowValid valid pivotOf combination weighted look collapseRow collapse measured decoded errorAt badOperation measurements goodError badError badChoice readBodies headerFits entryFits badContents readBook bodyOf operationsOf errorsOf stepsFrom withResult errorsOnFrame shiftRow verdictOf frameLook frameKind frameErrors frameStep frameSteps frameLeaves frameRunFrom frameRun startOf tableFits badShot shotRow cleanAmong shiftedAmong trayBuffersFit trayByAnswer trayBook
+unfolding listed inverse powerOf all firstNot tab rowOf dot product power pairing zWith scalar part put eachRow gatePowers gatePhase gateRow errorFrame rowValid valid selfValid validFor pivotOf combination weighted look collapseRow collapse measured decoded errorAt badOperation measurements goodError badError badChoice readBodies headerFits entryFits badContents readBook bodyOf operationsOf errorsOf stepsFrom withResult errorsOnFrame shiftRow verdictOf frameLook frameKind frameErrors frameStep frameSteps frameLeaves frameRunFrom frameRun startOf tableFits badShot shotRow cleanAmong shiftedAmong trayBuffersFit trayByAnswer trayBook
 returned = (refl, refl)
 
 -- a tray that is refused leaves a buffer of so many sevens
@@ -64,8 +65,13 @@ Refuses tray t size number place =
 abbrev bad : List ℕ
 bad = set tray 16 3
 
--- 11 before 6, 6 before 8, 8 before 9; 6 names the shot
+-- 11 before 6, 6 before 8, 8 before 9; 6 names the shot; 9 where d or n isn't the book's too, or a row is wrong
 pub refusals :
-    Refuses (bad ++ (0 ∷ [])) t 15 11 0 × Refuses bad [] 14 6 2 × Refuses tray (set t 0 2) 14 8 0 × Refuses tray (set t 0 2) 15 9 0
-unfolding listed all firstNot tab dot pairing part eachRow rowValid valid measured decoded errorAt badOperation measurements goodError badError badChoice readBodies headerFits entryFits badContents readBook bodyOf operationsOf startOf tableFits badShot trayBuffersFit trayByAnswer trayBook
-refusals = (refl, refl, refl, refl)
+    Refuses (bad ++ (0 ∷ [])) t 15 11 0
+    × Refuses bad [] 14 6 2
+    × Refuses tray (set t 0 5) 14 8 0
+    × Refuses tray (set t 0 5) 15 9 0
+    × Refuses tray (set t 1 2) 15 9 0
+    × Refuses tray (set t 2 2) 15 9 0
+unfolding listed all firstNot tab dot pairing part eachRow rowValid valid selfValid validFor measured decoded errorAt badOperation measurements goodError badError badChoice readBodies headerFits entryFits badContents readBook bodyOf operationsOf startOf tableFits badShot trayBuffersFit trayByAnswer trayBook
+refusals = (refl, refl, refl, refl, refl, refl)

@@ -7,7 +7,7 @@ use Prim.Native.Nat.{ℕ}
 use Rattle.search.specs.declared.Place.{Place}
 use Rattle.search.specs.declared.Place.the-variants.{At, Nowhere}
 use Rattle.search.proofs.Search.{unless-cases}
-use Rattle.validity.specs.Validity.{valid}
+use Rattle.saved_tableau.specs.Saved.{rowsIn, validFor}
 use Rattle.book_body.specs.Body.{accepted}
 use Rattle.book.specs.Book.{bodyOf}
 use Rattle.book.specs.Decoded.{operationsOf, measurementsIn}
@@ -20,14 +20,14 @@ pub record Goes (d n operations : ℕ) (s tray t out : List ℕ) : Type 0 where
   pub table : tableFits tray ≡ true
   pub shots : badShot d n operations tray ≡ Nowhere
   pub room : trayBuffersFit n (measurementsIn s d n) (shotsIn tray) t out ≡ true
-  pub rows : valid d n t ≡ true
+  pub tableau : validFor d n t ≡ true
 
 module _ (s tray t out : List ℕ) (P : TrayLeft → Type 0) where
   abbrev OnRefusal : ℕ → ℕ → Type 0
   OnRefusal number place = P (trayRefused number place out)
 
   abbrev OnSuccess : ℕ → ℕ → ℕ → Type 0
-  OnSuccess d n operations = Goes d n operations s tray t out → P (trayEnded d n (operationsOf d n (bodyOf s 1)) (bodyOf s 3) tray t out)
+  OnSuccess d n operations = Goes d n operations s tray t out → P (trayEnded d n (operationsOf d n (bodyOf s 1)) (bodyOf s 3) tray (rowsIn t) out)
 
   six-cases : {rest : TrayLeft} (p : Place) → ((k : ℕ) → OnRefusal 6 k) → (p ≡ Nowhere → P rest) → P (refuse6 p out rest)
   six-cases (At k) six goes = six k
@@ -43,7 +43,7 @@ module _ (s tray t out : List ℕ) (P : TrayLeft → Type 0) where
       six-cases (badShot d n operations tray) six
       (λ b.
       unless-cases P (trayBuffersFit n (measurementsIn s d n) (shotsIn tray) t out) (λ _. eight)
-      (λ c. unless-cases P (valid d n t) (λ _. nine) (λ e. goes (record { table = a; shots = b; room = c; rows = e })))))
+      (λ c. unless-cases P (validFor d n t) (λ _. nine) (λ e. goes (record { table = a; shots = b; room = c; tableau = e })))))
 
   -- of any book
   pub tray-cases : OnRefusal 1 0 → OnRefusal 2 0 → OnRefusal 3 0 → ((k : ℕ) → OnRefusal 4 k) → ((k : ℕ) → OnRefusal 5 k)

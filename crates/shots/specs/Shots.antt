@@ -8,7 +8,7 @@ use Rattle.search.specs.declared.Place.{Place}
 use Rattle.search.specs.declared.Place.the-variants.{At, Nowhere}
 use Rattle.search.specs.Search.{unless}
 use Rattle.tableau.specs.Tableau.{eachRow}
-use Rattle.validity.specs.Validity.{valid}
+use Rattle.saved_tableau.specs.Saved.{rowsIn, tableauBytes, validFor}
 use Rattle.operation.specs.declared.Operation.{Operation}
 use Rattle.operation.specs.declared.WeylError.{WeylError}
 use Rattle.circuit.specs.Circuit.{measured}
@@ -22,11 +22,11 @@ use Rattle.tray.specs.Tray.{shotsIn, shotBody, tableFits, badShot}
 abbrev pub shotBytes : FrameEnd → List ℕ
 shotBytes end = end .verdict ∷ end .results
 
--- The circuit's choices serve every shot, and the starting tableau t is used anew for each.
-module _ (d n : ℕ) (ops : List Operation) (choices t : List ℕ) where
+-- The circuit's choices serve every shot, and the starting tableau's rows are used anew for each.
+module _ (d n : ℕ) (ops : List Operation) (choices start : List ℕ) where
   abbrev pub shotRun : List WeylError → FrameEnd
   shotRun errors =
-      frameRun d n ops errors choices (record { rows = t; results = replicate (2 * measured ops (length ops)) 0 }) [] []
+      frameRun d n ops errors choices (record { rows = start; results = replicate (2 * measured ops (length ops)) 0 }) [] []
 
   module _ (tray : List ℕ) where
     abbrev pub runOf : ℕ → FrameEnd
@@ -60,18 +60,18 @@ pub record TrayLeft : Type 0 where
 abbrev pub trayRefused : ℕ → ℕ → List ℕ → TrayLeft
 trayRefused number place out = record { number = number; place = place; shifted = 0; out = out }
 
--- 8: tableau or output is shorter than it must be. Needed: tableau 2n(2n+1) bytes; output, per shot, 1 and 2 per measurement.
+-- 8: tableau or output is shorter than it must be. Needed: the tableau of the book's n; output, per shot, 1 and 2 per measurement.
 unfoldable pub trayBuffersFit : ℕ → ℕ → ℕ → List ℕ → List ℕ → Bool
-trayBuffersFit n measurements shots t out = leb (2 * n * (2 * n + 1)) (length t) && leb (shots * (1 + 2 * measurements)) (length out)
+trayBuffersFit n measurements shots t out = leb (tableauBytes n) (length t) && leb (shots * (1 + 2 * measurements)) (length out)
 
 -- Success returns 0, how many were clean and how many shifted.
 abbrev pub trayEnded : ℕ → ℕ → List Operation → List ℕ → List ℕ → List ℕ → List ℕ → TrayLeft
-trayEnded d n ops choices tray t out =
+trayEnded d n ops choices tray start out =
     record {
       number = 0;
-      place = cleanAmong d n ops choices t tray (shotsIn tray);
-      shifted = shiftedAmong d n ops choices t tray (shotsIn tray);
-      out = filledBy d n ops choices t tray out (shotsIn tray);
+      place = cleanAmong d n ops choices start tray (shotsIn tray);
+      shifted = shiftedAmong d n ops choices start tray (shotsIn tray);
+      out = filledBy d n ops choices start tray out (shotsIn tray);
     }
 
 -- 6 with the number of the first shot that has a bad entry
@@ -79,15 +79,16 @@ abbrev pub refuse6 : Place → List ℕ → TrayLeft → TrayLeft
 refuse6 (At shot) out rest = trayRefused 6 shot out
 refuse6 Nowhere out rest = rest
 
--- 1 to 7 of the book, its own errors checked but not used; then 11, the tray's 6, 8 and 9
+-- 1 to 7 of the book, its own errors checked but not used; then 11, the tray's 6, 8 and 9: a tableau that is not valid, or whose d or n
+-- isn't the book's
 unfoldable pub trayByAnswer : List ℕ → List ℕ → List ℕ → List ℕ → ReaderAnswer → TrayLeft
 trayByAnswer s tray t out (refused number place) = trayRefused number place out
 trayByAnswer s tray t out (accepted d n operations errors choices) =
     unless (tableFits tray) (trayRefused 11 0 out)
     (refuse6 (badShot d n operations tray) out
     (unless (trayBuffersFit n (measurementsIn s d n) (shotsIn tray) t out) (trayRefused 8 0 out)
-    (unless (valid d n t) (trayRefused 9 0 out)
-    (trayEnded d n (operationsOf d n (bodyOf s 1)) (bodyOf s 3) tray t out))))
+    (unless (validFor d n t) (trayRefused 9 0 out)
+    (trayEnded d n (operationsOf d n (bodyOf s 1)) (bodyOf s 3) tray (rowsIn t) out))))
 
 unfoldable pub trayBook : List ℕ → List ℕ → List ℕ → List ℕ → TrayLeft
 trayBook s tray t out = trayByAnswer s tray t out (readBook s)

@@ -68,12 +68,12 @@ fn verdict_line(verdict: usize) {
 
 // The whole listing of an accepted book, or the refusal that its run ended with.
 fn list(book: &[u8], numbers: Numbers) {
-    let mut t = [0u8; 16512];
+    let mut t = [0u8; 16514];
     let mut results = [0u8; 8192];
     let mut shifts = [0u8; 128];
     let mut frame = [0u8; 128];
     let n = numbers.n;
-    layer::lay(&mut t, casts::byte_as_usize(numbers.d), n);
+    saved_tableau::lay(&mut t, casts::byte_as_usize(numbers.d), n);
     let answer = frame_run::frame_run(book, &mut t, &mut results, &mut shifts, &mut frame);
     if answer.number != 0 {
         refuse(answer.number, answer.place);

@@ -1,4 +1,4 @@
-// The tableau test.
+// The test whether a tableau's rows are valid.
 ghost use mathlib.Core.Path.{_≡_};
 ghost use mathlib.Core.Bool.{cond};
 ghost use Prim.Native.Nat.{_+_, _*_, _<_, _≤_};
@@ -8,10 +8,9 @@ ghost use Rattle.search.specs.Search.{all};
 ghost use Rattle.modular.specs.Modular.{WideReciprocal};
 ghost use Rattle.tableau.specs.Tableau.{Tableau};
 ghost use Rattle.columns.specs.Columns.{Laid};
-ghost use Rattle.validity.specs.Validity.{byteBelow, pairsWell, rowValid, valid, testNumber};
+ghost use Rattle.validity.specs.Validity.{byteBelow, pairsWell, rowValid, valid};
 ghost use Rattle.tableau_test.specs.Pairable.{Pairable, PairableByColumns};
 ghost use Rattle.tableau_test.specs.Sums.{sumsPairWell};
-use answer::Answer;
 
 fn larger(x: u8, y: u8) -> u8
     ensures { λ r. ⌜ r ≡ cond (ltb x y) y x ⌝ }
@@ -164,18 +163,4 @@ pub fn is_valid(t: &[u8], d: u8, n: usize) -> bool
         return rows_valid(t, d, n);
     }
     rows_by_columns(t, d, n)
-}
-
-// Tests the tableau of n qudits of dimension d: 0, or its refusal by 2, 3, 8 or 9.
-pub fn test(t: &[u8], d: usize, n: usize) -> Answer
-    ensures { λ r. ⌜ r ≡ record { number = testNumber d n (now (t .entry)); place = 0 } ⌝ }
-{
-    let number = answer::shape_number(t, d, n);
-    if number != 0 {
-        return Answer { number, place: 0 };
-    }
-    if !is_valid(t, d as u8, n) {
-        return answer::refused(9, 0);
-    }
-    Answer { number, place: 0 }
 }

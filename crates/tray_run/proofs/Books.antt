@@ -8,11 +8,10 @@ use native.Mathlib.Omega.{arith}
 use lib.Dec.{leb}
 use lib.ListN.{length}
 use borrow.Author.Tests.{leb-true, not-true, not-false}
-use Rattle.modular.proofs.Listed.{dimension}
 use Rattle.search.specs.declared.Place.the-variants.{At, Nowhere}
 use Rattle.search.proofs.Search.{both}
-use Rattle.validity.specs.Validity.{valid}
-use Rattle.validity.proofs.Exactly.{valid-exactly}
+use Rattle.saved_tableau.specs.Saved.{rowsIn, tableauBytes, validFor}
+use Rattle.saved_tableau.proofs.Exactly.{valid-rows}
 use Rattle.book_body.specs.declared.Numbers.{Numbers}
 use Rattle.book_body.specs.declared.Reading.{Reading}
 use Rattle.book_body.specs.declared.Reading.the-variants.{Accepted as Taken}
@@ -74,33 +73,33 @@ module _ {s : List ℕ} {b : Numbers} (book : Opened s b) (tray t out : List ℕ
       short-book e = rw (book .reads, table, good, g .measurements, e)
 
       module _ (fitting : trayBuffersFit n (b .choices) (shotsIn tray) t out ≡ true) where
-        pub rooms : (2 * n * (2 * n + 1) ≤ length t) × (shotsIn tray * (1 + 2 * length (partOf s 16)) ≤ length out)
+        pub rooms : (tableauBytes n ≤ length t) × (shotsIn tray * (1 + 2 * length (partOf s 16)) ≤ length out)
         unfolding trayBuffersFit
         rooms =
-            let c = both (leb (2 * n * (2 * n + 1)) (length t)) (leb (shotsIn tray * (1 + 2 * b .choices)) (length out)) fitting in
+            let c = both (leb (tableauBytes n) (length t)) (leb (shotsIn tray * (1 + 2 * b .choices)) (length out)) fitting in
             (leb-true _ _ (c .0), rw (g .room) (leb-true _ _ (c .1)))
 
         -- 9
-        pub invalid-book : valid d n t ≡ false → trayRefused 9 0 out ≡ trayBook s tray t out
+        pub invalid-book : validFor d n t ≡ false → trayRefused 9 0 out ≡ trayBook s tray t out
         unfolding trayBook trayByAnswer
         invalid-book e = rw (book .reads, table, good, g .measurements, fitting, e)
 
-        module _ (tested : valid d n t ≡ true) where
-          pub given : Ready d n tray t (partOf s 4) (partOf s 16)
-          given = ready s g (book .reads) tray table good t (valid-exactly d n (dimension d (g .dimension)) t (rooms .0) .0 tested)
+        module _ (tested : validFor d n t ≡ true) where
+          pub given : Ready d n tray (rowsIn t) (partOf s 4) (partOf s 16)
+          given = ready s g (book .reads) tray table good (rowsIn t) (valid-rows t (rooms .0) tested)
 
           -- 0, where `shifted` of the shots are shifted
-          module _ {shifted : ℕ} (c : shifted ≡ shiftedAmong d n (operationsOf d n (partOf s 4)) (partOf s 16) t tray (shotsIn tray)) where
-            counts : cleanAmong d n (operationsOf d n (partOf s 4)) (partOf s 16) t tray (shotsIn tray) + shifted ≡ shotsIn tray
-            counts = rw c (counts-are d n (operationsOf d n (partOf s 4)) (partOf s 16) t tray (shotsIn tray))
+          module _ {shifted : ℕ} (c : shifted ≡ shiftedAmong d n (operationsOf d n (partOf s 4)) (partOf s 16) (rowsIn t) tray (shotsIn tray)) where
+            counts : cleanAmong d n (operationsOf d n (partOf s 4)) (partOf s 16) (rowsIn t) tray (shotsIn tray) + shifted ≡ shotsIn tray
+            counts = rw c (counts-are d n (operationsOf d n (partOf s 4)) (partOf s 16) (rowsIn t) tray (shotsIn tray))
 
             pub most : shifted ≤ shotsIn tray
             most = omega (arith, counts)
 
             pub run-book : {filled : List ℕ}
-                → filled ≡ filledBy d n (operationsOf d n (partOf s 4)) (partOf s 16) t tray out (shotsIn tray)
+                → filled ≡ filledBy d n (operationsOf d n (partOf s 4)) (partOf s 16) (rowsIn t) tray out (shotsIn tray)
                 → _≡_ {A = TrayLeft} (record { number = 0; place = shotsIn tray - shifted; shifted = shifted; out = filled }) (trayBook s tray t out)
             unfolding trayBook trayByAnswer
             run-book o =
-                let clean : shotsIn tray - shifted ≡ cleanAmong d n (operationsOf d n (partOf s 4)) (partOf s 16) t tray (shotsIn tray) = omega (arith, counts) in
+                let clean : shotsIn tray - shifted ≡ cleanAmong d n (operationsOf d n (partOf s 4)) (partOf s 16) (rowsIn t) tray (shotsIn tray) = omega (arith, counts) in
                 rw (book .reads, table, good, g .measurements, fitting, tested, g .third, ← g .measurements, g .first, clean, c, o)

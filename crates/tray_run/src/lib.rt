@@ -1,7 +1,12 @@
 // The run of a tray.
 ghost use mathlib.Core.Path.{_≡_};
-ghost use Prim.Native.Nat.{_≤_};
-ghost use Rattle.shots.specs.Shots.{trayBuffersFit, trayBook};
+ghost use Prim.Native.Nat.{_+_, _*_, _≤_};
+ghost use lib.ListN.{length};
+ghost use Rattle.saved_tableau.specs.Saved.{rowsIn, tableauBytes};
+ghost use Rattle.book.specs.Decoded.{operationsOf};
+ghost use Rattle.tray.specs.Tray.{shotsIn};
+ghost use Rattle.shots.specs.Shots.{filledBy, shiftedAmong, trayBuffersFit, trayBook};
+ghost use Rattle.shots_run.specs.Ready.{Ready};
 use book_body::Reading;
 use search::Place;
 
@@ -30,7 +35,28 @@ fn buffers_fit(t: &[u8], out: &[u8], measurements: usize, shots: usize, n: usize
         × (shots ≤ 4096) ⌝ }
     ensures { λ r. ⌜ r ≡ trayBuffersFit n measurements shots (now (t .entry)) (now (out .entry)) ⌝ }
 {
-    (2 * n * (2 * n + 1) <= t.len()) & (shots * (1 + 2 * measurements) <= out.len())
+    (2 * n * (2 * n + 1) + 2 <= t.len()) & (shots * (1 + 2 * measurements) <= out.len())
+}
+
+// Every shot from the rows of a tableau, which is kept: the buffer holds what separate frame runs would fill it with. How many are
+// shifted is returned.
+fn run_shots(
+    out: &mut [u8],
+    tray: &[u8],
+    t: &[u8],
+    ops: &[u8],
+    choices: &[u8],
+    d: u8,
+    n: usize,
+) -> usize
+    requires { ⌜ (tableauBytes n ≤ length (now t))
+        × Ready d n (now tray) (rowsIn (now t)) (now ops) (now choices)
+        × (shotsIn (now tray) * (1 + 2 * length (now choices)) ≤ length (now out)) ⌝ }
+    ensures { λ r. ⌜ (now (out .exit)
+        ≡ filledBy d n (operationsOf d n (now (ops .entry))) (now (choices .entry)) (rowsIn (now (t .entry))) (now (tray .entry)) (now (out .entry)) (shotsIn (now (tray .entry))))
+        × (r ≡ shiftedAmong d n (operationsOf d n (now (ops .entry))) (now (choices .entry)) (rowsIn (now (t .entry))) (now (tray .entry)) (shotsIn (now (tray .entry)))) ⌝ }
+{
+    shots_run::run(out, tray, &t[2..], ops, choices, d, n)
 }
 
 // The shots of a tray over a book's circuit, from the lent tableau: refusals 1 to 7 of the book, then 11, the tray's 6, 8 and 9.
@@ -57,10 +83,10 @@ pub fn tray_run(book: &[u8], tray: &[u8], t: &[u8], out: &mut [u8]) -> TrayAnswe
     if !buffers_fit(t, out, numbers.choices, shots, n) {
         return refused(8, 0);
     }
-    if !tableau_test::is_valid(t, d, n) {
+    if !saved_tableau::is_valid_for(t, d, n) {
         return refused(9, 0);
     }
-    let shifted = shots_run::run(
+    let shifted = run_shots(
         out,
         tray,
         t,

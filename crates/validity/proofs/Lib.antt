@@ -1,3 +1,2 @@
--- The theorem on the definitions, and a case of the test.
+-- The theorem on the definitions.
 pub mod Exactly
-pub mod Cases

@@ -1,4 +1,4 @@
--- Valid tableaus, and the tableau test.
+-- Valid rows of a tableau.
 use mathlib.Core.Path.{_≡_}
 use mathlib.Core.Bool.{Bool, true, cond, _&&_}
 use mathlib.Core.Logic.{_↔_}
@@ -8,9 +8,8 @@ use lib.Dec.{eqb, ltb}
 use lib.ListN.{length, getD}
 use Rattle.modular.specs.Dimension.{Dimension}
 use Rattle.row.specs.Row.{pairing}
-use Rattle.search.specs.Search.{unless, all}
+use Rattle.search.specs.Search.{all}
 use Rattle.tableau.specs.Tableau.{row}
-use Rattle.answer.specs.Shape.{shapeNumber}
 
 -- A tableau is valid when every byte is below d, stabilizer i paired with destabilizer i gives 1, and any two rows that aren't
 -- such partners give 0. Each two rows are paired once, the later with the earlier.
@@ -35,7 +34,3 @@ pub record Valid (d n : ℕ) (t : List ℕ) : Type 0 where
 
 abbrev pub ValidExactly : Type 0
 ValidExactly = (d n : ℕ) → Dimension d → (t : List ℕ) → 2 * n * (2 * n + 1) ≤ length t → (valid d n t ≡ true) ↔ Valid d n t
-
--- The tableau test: 2, 3, 8, 9. It changes no byte.
-unfoldable pub testNumber : ℕ → ℕ → List ℕ → ℕ
-testNumber d n t = shapeNumber d n t (unless (valid d n t) 9 0)

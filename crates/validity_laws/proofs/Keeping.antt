@@ -23,7 +23,7 @@ use Rattle.operation.specs.Gate.{gateRows}
 use Rattle.operation.specs.Error.{errorRow, errorRows}
 use Rattle.operation.proofs.Gate.{gate-keeps}
 use Rattle.operation.proofs.Error.{error-keeps}
-use Rattle.layer.specs.Layer.{zeroRow, zeroTableau}
+use Rattle.zero_tableau.specs.ZeroTableau.{zeroRow, zeroTableau}
 use Rattle.validity.specs.Validity.{Valid}
 use Rattle.conjugation.proofs.Acts.{mapped, gained, acts, reads-gate}
 use Rattle.validity_laws.specs.Keeping.{ZeroValid, GateKeepsValid, ErrorKeepsValid}

@@ -10,7 +10,7 @@ use Rattle.operation.specs.declared.WeylError.{WeylError}
 use Rattle.operation.specs.Operation.{allowed}
 use Rattle.operation.specs.Gate.{gateRows}
 use Rattle.operation.specs.Error.{errorAllowed, errorRows}
-use Rattle.layer.specs.Layer.{zeroTableau}
+use Rattle.zero_tableau.specs.ZeroTableau.{zeroTableau}
 use Rattle.validity.specs.Validity.{Valid}
 
 -- The zero tableau is valid, and each gate and error keeps validity.

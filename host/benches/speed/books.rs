@@ -158,5 +158,5 @@ fn after_gates(d: u8, n: u8, mut gate: impl FnMut() -> Operation) -> Vec<u8> {
         rows.iter_mut()
             .for_each(|row| plain::gate(d.into(), gate, row));
     }
-    plain::bytes_of(&rows)
+    plain::tableau_of(d.into(), &rows)
 }

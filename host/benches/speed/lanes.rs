@@ -13,8 +13,8 @@
 //!   twice as long.
 
 use crate::tuned::{
-    Book, Modulo, Returned, Specified, add, dot, is_power, is_valid, read, run_rows, tableau_len,
-    two_bytes,
+    Book, Modulo, ROWS, Returned, Specified, add, dot, is_power, is_valid_for, read, run_rows,
+    tableau_len, two_bytes,
 };
 use cagvost::book::MAX_OPERATIONS;
 
@@ -412,14 +412,14 @@ fn start<'a>(
         return Err((6, shot));
     }
     let mut results = vec![0; 2 * book.choices.len()];
-    let rows = tableau.get(..tableau_len(book.n)).ok_or((8, 0))?;
+    let tableau = tableau.get(..tableau_len(book.n)).ok_or((8, 0))?;
     if out.len() < two_bytes(tray, 0) * (1 + results.len()) {
         return Err((8, 0));
     }
-    if !is_valid(book.d, book.n, rows) {
+    if !is_valid_for(&book, tableau) {
         return Err((9, 0));
     }
-    let (mut rows, modulo) = (rows.to_vec(), Modulo::new(book.d));
+    let (mut rows, modulo) = (tableau[ROWS..].to_vec(), Modulo::new(book.d));
     book.errors = &[];
     run_rows::<Specified>(&book, &mut rows, &mut results, &modulo);
     Ok(Circuit {

@@ -102,7 +102,7 @@ fn single_errors() {
     for (q, d) in (0..QUDITS).flat_map(|q| DIMENSIONS.map(|d| (q, d))) {
         for (p, s, verdict) in [(1, 0, 1), (0, 1, 0)] {
             let book = Book::new(d, QUDITS).error(q, p, s).clone();
-            let job = Job::new(&book, zero_tableau(QUDITS));
+            let job = Job::new(&book, zero_tableau(d, QUDITS));
             assert_eq!(compare(&job, &FRAME).0, (0, 0, verdict));
         }
     }

@@ -2,7 +2,7 @@
 
 use crate::books::dense_tableau;
 use crate::common::trays::{Lent, Returned, draw_circuit_of, numbers, separate};
-use crate::common::{Rng, draw_error, draw_gate, draw_single, plain};
+use crate::common::{ROWS, Rng, draw_error, draw_gate, draw_single, plain};
 use crate::lanes;
 use crate::timing::{Times, summary};
 use cagvost::book::{Book, MAX_OPERATIONS, Operation};
@@ -167,7 +167,7 @@ fn compare_refusals() {
         .body(&[])
         .body(&[2, 0, 0, 1, 0]);
     let good = Lent::zero(&book, &tray);
-    let faults: [Fault; 8] = [
+    let faults: [Fault; 11] = [
         (0, |_| {}),
         (7, |lent| *lent.book.last_mut().expect("a choice") = 5),
         (11, |lent| lent.tray.push(0)),
@@ -175,7 +175,10 @@ fn compare_refusals() {
         (6, |lent| lent.tray[8] = 5),
         (6, |lent| *lent.tray.last_mut().expect("a power") = 5),
         (8, |lent| lent.out.truncate(8)),
-        (9, |lent| lent.tableau[0] = 2),
+        (8, |lent| lent.tableau.truncate(21)),
+        (9, |lent| lent.tableau[0] = 3),
+        (9, |lent| lent.tableau[1] = 1),
+        (9, |lent| lent.tableau[ROWS] = 2),
     ];
     for (number, fault) in faults {
         let mut lent = good.clone();

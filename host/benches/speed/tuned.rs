@@ -245,22 +245,22 @@ impl Divisor {
     }
 }
 
-pub fn is_valid(d: u8, n: usize, tableau: &[u8]) -> bool {
-    if tableau.iter().fold(0, |most, &x| x.max(most)) >= d {
+fn is_valid(d: u8, n: usize, rows: &[u8]) -> bool {
+    if rows.iter().fold(0, |most, &x| x.max(most)) >= d {
         return false;
     }
     let divisor = Divisor::new(d);
-    let mut rows = [[0; POWERS]; POWERS];
-    for (centred, row) in rows.iter_mut().zip(tableau.chunks_exact(2 * n + 1)) {
+    let mut powers = [[0; POWERS]; POWERS];
+    for (centred, row) in powers.iter_mut().zip(rows.chunks_exact(2 * n + 1)) {
         centre(centred, &row[..2 * n], d);
     }
     let mut lefts = [[0; POWERS]; 2];
     (0..n).all(|g| {
-        for (left, row) in lefts.iter_mut().zip(&rows[2 * g..]) {
-            left_side(left, row, n);
+        for (left, powers) in lefts.iter_mut().zip(&powers[2 * g..]) {
+            left_side(left, powers, n);
         }
         let lefts = lefts.each_ref().map(|left| &left[..2 * n]);
-        let earlier = rows[..2 * g + 1].iter().enumerate();
+        let earlier = powers[..2 * g + 1].iter().enumerate();
         earlier.fold(true, |good, (j, other)| {
             let [first, second] = pairings(lefts, &other[..2 * n]);
             good & divisor.divides(first, 2 * g == n + j)
@@ -693,20 +693,33 @@ fn take_error<'a>(errors: &mut &'a [u8], k: usize) -> Option<&'a [u8]> {
 
 // ---- Calls
 
+/// Where the rows of a tableau begin, behind d and n.
+pub const ROWS: usize = 2;
+
 /// The bytes of a tableau of n qudits.
 pub fn tableau_len(n: usize) -> usize {
-    2 * n * (2 * n + 1)
+    ROWS + 2 * n * (2 * n + 1)
 }
 
-pub fn test(tableau: &[u8], d: usize, n: usize) -> Returned {
-    if let Err(returned) = check_sizes(d, n) {
+pub fn test(tableau: &[u8]) -> Returned {
+    let &[d, n, ..] = tableau else {
+        return (8, 0);
+    };
+    let n = usize::from(n);
+    if let Err(returned) = check_sizes(d.into(), n) {
         return returned;
     }
-    match tableau.get(..tableau_len(n)) {
+    match tableau.get(ROWS..tableau_len(n)) {
         None => (8, 0),
-        Some(rows) if !is_valid(d as u8, n, rows) => (9, 0),
+        Some(rows) if !is_valid(d, n, rows) => (9, 0),
         Some(_) => (0, 0),
     }
+}
+
+/// Whether a tableau of the length that the book's n needs is the book's and valid.
+pub fn is_valid_for(book: &Book, tableau: &[u8]) -> bool {
+    let (sizes, rows) = tableau.split_at(ROWS);
+    sizes == [book.d, book.n as u8] && is_valid(book.d, book.n, rows)
 }
 
 /// Writes the book of three bodies.
@@ -748,30 +761,31 @@ fn lay(bodies: [&[u8]; 3], d: u8, n: u8, out: &mut [u8]) -> usize {
     offset
 }
 
-/// The book and the rows to run it on, or a refusal.
+/// The book and the part of the tableau that it needs, not yet tested, or a refusal.
 fn start<'a, 'b>(
     book: &'a [u8],
     tableau: &'b mut [u8],
     results: &[u8],
 ) -> Result<(Book<'a>, &'b mut [u8]), Returned> {
     let book = read(book)?;
-    let rows = tableau.get_mut(..tableau_len(book.n)).ok_or((8, 0))?;
+    let tableau = tableau.get_mut(..tableau_len(book.n)).ok_or((8, 0))?;
     if results.len() < 2 * book.choices.len() {
         return Err((8, 0));
     }
-    Ok((book, rows))
+    Ok((book, tableau))
 }
 
 /// The direct run: each error is applied to every row at its place.
 pub fn direct_run<P: Phases>(book: &[u8], tableau: &mut [u8], results: &mut [u8]) -> Returned {
-    let (book, rows) = match start(book, tableau, results) {
+    let (book, tableau) = match start(book, tableau, results) {
         Ok(started) => started,
         Err(returned) => return returned,
     };
-    if !is_valid(book.d, book.n, rows) {
+    if !is_valid_for(&book, tableau) {
         return (9, 0);
     }
     let modulo = Modulo::new(book.d);
+    let rows = &mut tableau[ROWS..];
     (0, run_rows::<P>(&book, rows, results, &modulo))
 }
 
@@ -828,18 +842,19 @@ pub fn frame_run<P: Phases>(
     shifts: &mut [u8],
     frame: &mut [u8],
 ) -> (usize, usize, usize) {
-    let (book, rows) = match start(book, tableau, results) {
+    let (book, tableau) = match start(book, tableau, results) {
         Ok(started) => started,
         Err((number, place)) => return (number, place, 0),
     };
-    let (d, n) = (book.d, book.n);
+    let n = book.n;
     let (Some(shifts), Some(frame)) = (shifts.get_mut(..2 * n), frame.get_mut(..2 * n)) else {
         return (8, 0, 0);
     };
-    if !is_valid(d, n, rows) {
+    if !is_valid_for(&book, tableau) {
         return (9, 0, 0);
     }
-    let modulo = Modulo::new(d);
+    let modulo = Modulo::new(book.d);
+    let rows = &mut tableau[ROWS..];
     frame.fill(0);
     P::enter(rows, n, &modulo);
     let measurements = carry_along::<P>(&book, rows, results, frame, &modulo);

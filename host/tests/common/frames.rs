@@ -1,6 +1,6 @@
 //! Frame runs by the library and by the plain reference.
 
-use super::{Rng, UNWRITTEN, plain, test_of, with_tail, zero_tableau};
+use super::{Rng, UNWRITTEN, is_still_valid, plain, with_tail, zero_tableau};
 use cagvost::{FrameRun, Verdict};
 
 /// The four buffers of a frame run.
@@ -29,9 +29,9 @@ impl Buffers {
     }
 
     /// Exactly the room that a book needs, with the zero tableau.
-    pub fn zero(n: u8, measurements: usize) -> Buffers {
+    pub fn zero(d: u8, n: u8, measurements: usize) -> Buffers {
         Buffers {
-            tableau: zero_tableau(n),
+            tableau: zero_tableau(d, n),
             results: vec![UNWRITTEN; 2 * measurements],
             shifts: vec![UNWRITTEN; 2 * usize::from(n)],
             frame: vec![UNWRITTEN; 2 * usize::from(n)],
@@ -69,7 +69,7 @@ impl Buffers {
 }
 
 /// A frame run by both, which must agree in each number and byte. A refusal must leave every byte,
-/// and what a run leaves must pass the test.
+/// and what a run leaves must name the book's d and n and pass the test.
 pub fn carry_both(book: &[u8], before: &Buffers) -> ((usize, usize, usize), Buffers) {
     let lent = book.to_vec();
     let (mut left, mut expected) = (before.clone(), before.clone());
@@ -80,7 +80,7 @@ pub fn carry_both(book: &[u8], before: &Buffers) -> ((usize, usize, usize), Buff
     if returned.0 != 0 {
         assert!(left == *before, "{returned:?} changed a buffer");
     } else {
-        assert_eq!(test_of(book, &left.tableau), (0, 0), "after {book:02x?}");
+        is_still_valid(book, &left.tableau);
     }
     (returned, left)
 }

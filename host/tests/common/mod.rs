@@ -10,11 +10,15 @@ use cagvost::Refusal;
 use cagvost::book::{Book, DIMENSIONS, MAX_ERRORS, MAX_OPERATIONS, Operation, WeylError};
 
 /// A byte that no call but the writer writes: results, marks, shifts, powers and phases are below
-/// 31. Buffers are filled with it before a call, so that a byte left unwritten shows.
+/// 31, d and n at most 64. Buffers are filled with it before a call, so that a byte left unwritten
+/// shows.
 pub const UNWRITTEN: u8 = 255;
 
 /// Where the bodies of a book begin.
 pub const BODIES: usize = 22;
+
+/// Where the rows of a tableau begin.
+pub use plain::ROWS;
 
 /// The 45-byte book of the specification.
 pub const PAPER_BOOK: [u8; 45] = [
@@ -311,12 +315,17 @@ pub fn draw_tableau(rng: &mut Rng, d: u8, n: u8) -> Vec<u8> {
     for row in &mut rows {
         row.r = i64::from(rng.byte_below(d));
     }
-    plain::bytes_of(&rows)
+    plain::tableau_of(modulus, &rows)
 }
 
 /// The zero tableau, by the plain reference.
-pub fn zero_tableau(n: u8) -> Vec<u8> {
-    plain::bytes_of(&plain::zero_rows(n.into()))
+pub fn zero_tableau(d: u8, n: u8) -> Vec<u8> {
+    plain::tableau_of(d.into(), &plain::zero_rows(n.into()))
+}
+
+/// The tableau that has these bytes as rows, behind the two that name them.
+pub fn named(d: u8, n: u8, rows: &[u8]) -> Vec<u8> {
+    [&[d, n], rows].concat()
 }
 
 /// The bytes, and after them others that no call may touch.
@@ -367,8 +376,8 @@ pub struct Run {
 }
 
 /// Runs the book on copies of the buffers, by the library and by the plain reference, which must
-/// agree in each number and byte. A refusal must leave every byte, what a run leaves must pass the
-/// test, and no run may touch the book.
+/// agree in each number and byte. A refusal must leave every byte, what a run leaves must name the
+/// book's d and n and pass the test, and no run may touch the book.
 pub fn run_both(book: &[u8], tableau: &[u8], results: &[u8]) -> Run {
     let lent = book.to_vec();
     let (mut by_library, mut by_plain) = (
@@ -389,7 +398,7 @@ pub fn run_both(book: &[u8], tableau: &[u8], results: &[u8]) -> Run {
         assert!(by_library.0 == tableau, "{answer:?} changed the tableau");
         assert!(by_library.1 == results, "{answer:?} changed the results");
     } else {
-        assert_eq!(test_of(book, &by_library.0), (0, 0), "after {book:02x?}");
+        is_still_valid(book, &by_library.0);
     }
     Run {
         returned: answer,
@@ -398,9 +407,10 @@ pub fn run_both(book: &[u8], tableau: &[u8], results: &[u8]) -> Run {
     }
 }
 
-/// Tests a tableau for the dimension and the qudits of an accepted book, by both.
-pub fn test_of(book: &[u8], tableau: &[u8]) -> plain::Returned {
-    test_both(tableau, book[1].into(), book[2].into())
+/// What a run of this book leaves begins with the book's d and n and passes the test.
+pub fn is_still_valid(book: &[u8], tableau: &[u8]) {
+    assert_eq!(tableau[..ROWS], book[1..3], "after {book:02x?}");
+    assert_eq!(test_both(tableau), (0, 0), "after {book:02x?}");
 }
 
 /// Lays the zero tableau on a copy of the buffer by both, which must agree; a refusal must leave it.
@@ -420,10 +430,12 @@ pub fn layer_both(tableau: &[u8], d: usize, n: usize) -> (plain::Returned, Vec<u
 }
 
 /// Tests a copy of the buffer by both, which must agree; no byte may change.
-pub fn test_both(tableau: &[u8], d: usize, n: usize) -> plain::Returned {
+pub fn test_both(tableau: &[u8]) -> plain::Returned {
     let lent = tableau.to_vec();
-    let answer = returned(cagvost::test_tableau(&lent, d, n).map(|()| 0));
-    assert_eq!(answer, plain::test(tableau, d, n), "test of d {d} n {n}");
+    let answer = returned(cagvost::test_tableau(&lent).map(|()| 0));
+    let (length, first) = (tableau.len(), &tableau[..tableau.len().min(ROWS)]);
+    let expected = plain::test(tableau);
+    assert_eq!(answer, expected, "test of {length} bytes, first {first:?}");
     assert!(lent == tableau, "the test wrote the tableau");
     answer
 }

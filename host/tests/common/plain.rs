@@ -76,9 +76,18 @@ pub fn z_on(n: usize, q: usize, r: i64) -> Row {
 
 // ---- Tableau
 
+/// Where the rows of a tableau begin, behind d and n. Only the calls and `tableau_of` know of these
+/// two bytes: all else here has rows, or their bytes alone.
+pub const ROWS: usize = 2;
+
+/// The bytes of the rows of n qudits.
+fn rows_len(n: usize) -> usize {
+    2 * n * (2 * n + 1)
+}
+
 /// The bytes of a tableau of n qudits.
 pub fn tableau_len(n: usize) -> usize {
-    2 * n * (2 * n + 1)
+    ROWS + rows_len(n)
 }
 
 /// The zero tableau: destabilizers, then stabilizers.
@@ -91,10 +100,10 @@ pub fn zero_rows(n: usize) -> Vec<Row> {
     rows
 }
 
-/// The rows that the buffer begins with.
+/// The rows that the bytes begin with.
 pub fn rows_of(n: usize, bytes: &[u8]) -> Vec<Row> {
     let numbers = |part: &[u8]| part.iter().map(|&x| i64::from(x)).collect::<Vec<_>>();
-    bytes[..tableau_len(n)]
+    bytes[..rows_len(n)]
         .chunks(2 * n + 1)
         .map(|row| Row {
             a: numbers(&row[..n]),
@@ -115,9 +124,16 @@ pub fn bytes_of(rows: &[Row]) -> Vec<u8> {
     bytes
 }
 
-/// Whether the buffer begins with a valid tableau.
+/// The bytes of the tableau that has these rows: d and n, then theirs.
+pub fn tableau_of(d: i64, rows: &[Row]) -> Vec<u8> {
+    let mut bytes = vec![d as u8, (rows.len() / 2) as u8];
+    bytes.extend(bytes_of(rows));
+    bytes
+}
+
+/// Whether the bytes begin with the rows of a valid tableau.
 pub fn is_valid(d: i64, n: usize, bytes: &[u8]) -> bool {
-    if bytes[..tableau_len(n)].iter().any(|&x| i64::from(x) >= d) {
+    if bytes[..rows_len(n)].iter().any(|&x| i64::from(x) >= d) {
         return false;
     }
     let rows = rows_of(n, bytes);
@@ -304,8 +320,8 @@ pub fn stabilizes(d: i64, n: usize, rows: &[Row], v: &Row) -> bool {
     whole == *v
 }
 
-/// Whether two valid tableaus have the same stabilizer set: each has the other's stabilizers.
-/// Nothing is known here of frames and shifts.
+/// Whether the rows of two valid tableaus have the same stabilizer set: each has the other's
+/// stabilizers. Nothing is known here of frames and shifts.
 pub fn same_set(d: i64, n: usize, t: &[u8], u: &[u8]) -> bool {
     let (t, u) = (rows_of(n, t), rows_of(n, u));
     let has = |rows: &[Row], others: &[Row]| others[n..].iter().all(|v| stabilizes(d, n, rows, v));
@@ -517,22 +533,33 @@ pub fn layer(tableau: &mut [u8], d: usize, n: usize) -> Returned {
     if tableau.len() < tableau_len(n) {
         return (8, 0);
     }
-    tableau[..tableau_len(n)].copy_from_slice(&bytes_of(&zero_rows(n)));
+    tableau[..tableau_len(n)].copy_from_slice(&tableau_of(d as i64, &zero_rows(n)));
     (0, 0)
 }
 
-/// Tests a tableau.
-pub fn test(tableau: &[u8], d: usize, n: usize) -> Returned {
+/// Tests a tableau for the d and the n that it begins with.
+pub fn test(tableau: &[u8]) -> Returned {
+    if tableau.len() < ROWS {
+        return (8, 0);
+    }
+    let (d, n) = (usize::from(tableau[0]), usize::from(tableau[1]));
     if let Err(returned) = check_sizes(d, n) {
         return returned;
     }
     if tableau.len() < tableau_len(n) {
         return (8, 0);
     }
-    if !is_valid(d as i64, n, tableau) {
+    if !is_valid(d as i64, n, &tableau[ROWS..]) {
         return (9, 0);
     }
     (0, 0)
+}
+
+/// Whether a run of the book may start from a tableau that is long enough: it begins with the book's
+/// d and n, and its rows are valid for them. Else it is refused by 9.
+fn may_start(book: &Book, tableau: &[u8]) -> bool {
+    let is_named = i64::from(tableau[0]) == book.d && usize::from(tableau[1]) == book.n;
+    is_named && is_valid(book.d, book.n, &tableau[ROWS..])
 }
 
 /// The direct run: each error is applied to every row at its place.
@@ -545,10 +572,10 @@ pub fn direct_run(book: &[u8], tableau: &mut [u8], results: &mut [u8]) -> Return
     if tableau.len() < tableau_len(n) || results.len() < 2 * book.measurements() {
         return (8, 0);
     }
-    if !is_valid(d, n, tableau) {
+    if !may_start(&book, tableau) {
         return (9, 0);
     }
-    let mut rows = rows_of(n, tableau);
+    let mut rows = rows_of(n, &tableau[ROWS..]);
     let mut done = 0;
     for k in 0..=book.operations.len() {
         for error in book.errors_at(k) {
@@ -564,7 +591,7 @@ pub fn direct_run(book: &[u8], tableau: &mut [u8], results: &mut [u8]) -> Return
             Some(&op) => rows.iter_mut().for_each(|row| gate(d, op, row)),
         }
     }
-    tableau[..tableau_len(n)].copy_from_slice(&bytes_of(&rows));
+    tableau[ROWS..tableau_len(n)].copy_from_slice(&bytes_of(&rows));
     (0, done)
 }
 
@@ -586,14 +613,14 @@ pub fn frame_run(
     if short || shifts.len() < 2 * n || frame.len() < 2 * n {
         return (8, 0, 0);
     }
-    if !is_valid(d, n, tableau) {
+    if !may_start(&book, tableau) {
         return (9, 0, 0);
     }
-    let mut rows = rows_of(n, tableau);
+    let mut rows = rows_of(n, &tableau[ROWS..]);
     let mut carried = identity(n);
     let measurements = carry_all(&book, &mut rows, &mut carried, results);
     let verdict = shift_all(d, &carried, &mut rows, shifts);
-    tableau[..tableau_len(n)].copy_from_slice(&bytes_of(&rows));
+    tableau[ROWS..tableau_len(n)].copy_from_slice(&bytes_of(&rows));
     // A frame has no phase: the last byte of its row is left off.
     frame[..2 * n].copy_from_slice(&bytes_of(&[carried])[..2 * n]);
     (0, measurements, verdict)
@@ -607,11 +634,11 @@ pub fn tray(book: &[u8], tray: &[u8], tableau: &[u8], out: &mut [u8]) -> (usize,
         Err((number, place)) => return (number, place, 0),
     };
     let Shots { circuit, errors } = shots;
-    let (d, n, width) = (circuit.d, circuit.n, 1 + 2 * circuit.measurements());
-    if tableau.len() < tableau_len(n) || out.len() < errors.len() * width {
+    let width = 1 + 2 * circuit.measurements();
+    if tableau.len() < tableau_len(circuit.n) || out.len() < errors.len() * width {
         return (8, 0, 0);
     }
-    if !is_valid(d, n, tableau) {
+    if !may_start(&circuit, tableau) {
         return (9, 0, 0);
     }
     let mut ended = [0, 0];
@@ -620,7 +647,7 @@ pub fn tray(book: &[u8], tray: &[u8], tableau: &[u8], out: &mut [u8]) -> (usize,
             errors,
             ..circuit.clone()
         };
-        let (verdict, results) = one_shot(&book, tableau);
+        let (verdict, results) = one_shot(&book, &tableau[ROWS..]);
         let row = &mut out[i * width..(i + 1) * width];
         row[0] = verdict as u8;
         row[1..].copy_from_slice(&results);
@@ -629,9 +656,9 @@ pub fn tray(book: &[u8], tray: &[u8], tableau: &[u8], out: &mut [u8]) -> (usize,
     (0, ended[0], ended[1])
 }
 
-/// The verdict and the results of a frame run from a copy of the tableau.
-fn one_shot(book: &Book, tableau: &[u8]) -> (usize, Vec<u8>) {
-    let mut rows = rows_of(book.n, tableau);
+/// The verdict and the results of a frame run from a copy of the rows.
+fn one_shot(book: &Book, rows: &[u8]) -> (usize, Vec<u8>) {
+    let mut rows = rows_of(book.n, rows);
     let mut carried = identity(book.n);
     let mut results = vec![0; 2 * book.measurements()];
     carry_all(book, &mut rows, &mut carried, &mut results);

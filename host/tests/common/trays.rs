@@ -37,7 +37,7 @@ impl Lent {
         Lent {
             book: book.to_bytes(),
             tray: tray.to_bytes(),
-            tableau: zero_tableau(book.qudits()),
+            tableau: zero_tableau(book.dimension(), book.qudits()),
             out: vec![UNWRITTEN; room],
         }
     }
@@ -110,7 +110,7 @@ fn one_by_one(before: &Lent, out: &[u8]) {
 /// The verdict and the results of a separate frame run of the book that is written of these bodies.
 pub fn separate(bodies: [&[u8]; 3], d: u8, n: u8, tableau: &[u8]) -> Vec<u8> {
     let book = written(bodies, d, n);
-    let mut run = Buffers::zero(n, bodies[2].len());
+    let mut run = Buffers::zero(d, n, bodies[2].len());
     run.tableau = tableau.to_vec();
     let (number, _, verdict) = run.by_library(&book);
     assert_eq!(number, 0, "{bodies:02x?}");

@@ -1,10 +1,8 @@
 -- `direct_run::direct_run` meets its contract.
 -- Assumes nothing.
 use mathlib.Core.Path.{refl}
-use native.Mathlib.Omega.{arith}
 use denote.Ref.{now}
 use borrow.Author.Needs.{needs}
-use Rattle.modular.proofs.Listed.{dimension}
 use Rattle.book.proofs.Handed.{handed, bodies-of}
 use Rattle.direct_run.specs.DirectBook.{directByAnswer, directBook}
 use Rattle.direct_run.proofs.Books.{short-book, rooms, invalid-book, tested, run-book}
@@ -31,14 +29,13 @@ returns-2 c =
     let g = handed (now (s .book)) (m .before .before .read .ensures) (m .reading .given .1) in
     short-book (now (s .book)) g (now (s .t)) (now (s .results)) (c .before .buffers-fit .ensures) (c .if1 .taken)
 
-is-valid-requires : tie.Need-is-valid-requires
-is-valid-requires c κs =
+is-valid-for-requires : tie.Need-is-valid-for-requires
+is-valid-for-requires c κs =
     let m = c .before .before .before .before .before .before in
     let s = m .before .before .before .before .before .before .args in
     let g = handed (now (s .book)) (m .before .before .read .ensures) (m .reading .given .1) in
-    let dim = dimension _ (g .dimension) in
     let r = rooms (now (s .book)) g (now (s .t)) (now (s .results)) (c .before .before .buffers-fit .ensures) (c .before .if1 .left) in
-    (omega arith, dim .high, g .qudits, r .0)
+    (g .dimension, g .qudits-sized, r .0)
 
 returns-3 : tie.Need-returns-3
 returns-3 c =
@@ -46,7 +43,7 @@ returns-3 c =
     let m = o .before .before .before .before in
     let s = m .before .before .before .before .before .before .args in
     let g = handed (now (s .book)) (m .before .before .read .ensures) (m .reading .given .1) in
-    invalid-book (now (s .book)) g (now (s .t)) (now (s .results)) (o .buffers-fit .ensures) (c .before .before .before .if1 .left) (c .before .is-valid .ensures) (c .if2 .taken)
+    invalid-book (now (s .book)) g (now (s .t)) (now (s .results)) (o .buffers-fit .ensures) (c .before .before .before .if1 .left) (c .before .is-valid-for .ensures) (c .if2 .taken)
 
 operations-requires : tie.Need-operations-requires
 operations-requires c κs =
@@ -69,8 +66,8 @@ choices-requires c κs =
     let g = handed (now (s .book)) (m .before .before .read .ensures) (m .reading .given .1) in
     (g .bodies .room, g .bodies .third)
 
-run-requires : tie.Need-run-requires
-run-requires c κs =
+run-tableau-requires : tie.Need-run-tableau-requires
+run-tableau-requires c κs =
     let p = c .before .before in
     let v = p .before .before .before .before in
     let o = v .before .before .before in
@@ -83,7 +80,8 @@ run-requires c κs =
     let b3 = p .choices .ensures in (
       bodies-of (now (s .book)) g b1 b2 b3,
       rw (b3, g .room) (r .1),
-      tested (now (s .book)) g (now (s .t)) (now (s .results)) (o .buffers-fit .ensures) (v .before .before .if1 .left) (v .is-valid .ensures) (p .before .before .before .if2 .left),
+      r .0,
+      tested (now (s .book)) g (now (s .t)) (now (s .results)) (o .buffers-fit .ensures) (v .before .before .if1 .left) (v .is-valid-for .ensures) (p .before .before .before .if2 .left),
     )
 
 returns-4 : tie.Need-returns-4
@@ -95,8 +93,8 @@ returns-4 c =
     let m = o .before .before .before .before in
     let s = m .before .before .before .before .before .before .args in
     let g = handed (now (s .book)) (m .before .before .read .ensures) (m .reading .given .1) in
-    run-book (now (s .book)) g (now (s .t)) (now (s .results)) (o .buffers-fit .ensures) (v .before .before .if1 .left) (v .is-valid .ensures) (p .before .before .before .if2 .left)
-    (rw (p .before .before .operations .ensures, p .before .errors .ensures, p .choices .ensures) at (u .run .ensures))
+    run-book (now (s .book)) g (now (s .t)) (now (s .results)) (o .buffers-fit .ensures) (v .before .before .if1 .left) (v .is-valid-for .ensures) (p .before .before .before .if2 .left)
+    (rw (p .before .before .operations .ensures, p .before .errors .ensures, p .choices .ensures) at (u .run-tableau .ensures))
 
 pub direct-run-spec : {M : Type 1} → statement M
 direct-run-spec =
@@ -111,14 +109,14 @@ direct-run-spec =
     (λ c. refl)
     (λ c. refl)
     returns-2
-    is-valid-requires
+    is-valid-for-requires
     (λ c. refl)
     (λ c. refl)
     returns-3
     operations-requires
     errors-requires
     choices-requires
-    run-requires
+    run-tableau-requires
     (λ c. c .before .before .before .t .given)
     (λ c. c .before .results .given)
     returns-4)

@@ -3,7 +3,6 @@
 use mathlib.Core.Path.{refl}
 use borrow.Author.Needs.{needs}
 use Rattle.modular.proofs.Listed.{dimension}
-use Rattle.direct_run.proofs.Answers.{run-answer}
 use Rattle.direct_run.proofs.run.Statement.{statement}
 use Rattle.direct_run.proofs.run.Tie as tie
 
@@ -24,10 +23,7 @@ run-by-requires c κs = let s = c .before .before .before .before .before .befor
   s .pre .2,
 )
 
-returns : tie.Need-returns
-returns c = let r = c .before .before .before .before in run-answer (r .run-by .ensures .1) (r .run-by .ensures .0)
-
 pub run-spec : {M : Type 1} → statement M
 run-spec =
     tie.close
-    (tie.spec (λ c. search needs) make-requires (λ c. search needs) run-by-requires (λ c. search needs) (λ c. search needs) returns)
+    (tie.spec (λ c. search needs) make-requires (λ c. search needs) run-by-requires (λ c. search needs) (λ c. search needs) (λ c. search needs))

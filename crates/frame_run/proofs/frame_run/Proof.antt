@@ -1,10 +1,8 @@
 -- `frame_run::frame_run` meets its contract.
 -- Assumes nothing.
 use mathlib.Core.Path.{refl}
-use native.Mathlib.Omega.{arith}
 use denote.Ref.{now}
 use borrow.Author.Needs.{needs}
-use Rattle.modular.proofs.Listed.{dimension}
 use Rattle.book.proofs.Handed.{handed, bodies-of}
 use Rattle.frame_run.specs.FrameBook.{buffersOf, frameByAnswer, frameBook}
 use Rattle.frame_run.proofs.Books.{short-book, room, invalid-book, rows, run-book}
@@ -39,18 +37,17 @@ returns-2 c =
     (buffersOf (now (a .t)) (now (a .results)) (now (a .shifts)) (now (a .frame)))
     (c .before .before .buffers-fit .ensures) (c .before .if1 .taken))
 
-is-valid-requires : tie.Need-is-valid-requires
-is-valid-requires c κs =
+is-valid-for-requires : tie.Need-is-valid-for-requires
+is-valid-for-requires c κs =
     let o = c .before .before in
     let m = o .before .before .before .before .before .before in
     let a = m .before .before .before .before .before .before .before .before .args in
     let g = handed (now (a .book)) (m .before .before .read .ensures) (m .reading .given .1) in
-    let dim = dimension _ (g .dimension) in
     let r =
     room (now (a .book)) g
     (buffersOf (now (a .t)) (now (a .results)) (now (a .shifts)) (now (a .frame)))
     (o .buffers-fit .ensures) (c .before .if1 .left) in
-    (omega arith, dim .high, g .qudits, r .tableau)
+    (g .dimension, g .qudits-sized, r .tableau)
 
 refused-requires-3 : tie.Need-refused-requires-3
 refused-requires-3 c κs = tt
@@ -64,7 +61,7 @@ returns-3 c =
     rw (c .refused3 .ensures)
     (invalid-book (now (a .book)) g
     (buffersOf (now (a .t)) (now (a .results)) (now (a .shifts)) (now (a .frame)))
-    (o .buffers-fit .ensures) (c .before .before .before .before .if1 .left) (c .before .before .is-valid .ensures) (c .before .if2 .taken))
+    (o .buffers-fit .ensures) (c .before .before .before .before .if1 .left) (c .before .before .is-valid-for .ensures) (c .before .if2 .taken))
 
 operations-requires : tie.Need-operations-requires
 operations-requires c κs =
@@ -87,8 +84,8 @@ choices-requires c κs =
     let g = handed (now (a .book)) (m .before .before .read .ensures) (m .reading .given .1) in
     (g .bodies .room, g .bodies .third)
 
-run-requires : tie.Need-run-requires
-run-requires c κs =
+run-tableau-requires : tie.Need-run-tableau-requires
+run-tableau-requires c κs =
     let p = c .before .before .before .before in
     let v = p .before .before .before .before in
     let o = v .before .before .before in
@@ -103,7 +100,7 @@ run-requires c κs =
     let b3 = p .choices .ensures in (
       bodies-of book g b1 b2 b3,
       record { tableau = r .tableau; results = rw (b3, g .room) (r .results); shifts = r .shifts; frame = r .frame },
-      rows book g lent (o .buffers-fit .ensures) (v .before .before .if1 .left) (v .is-valid .ensures) (p .before .before .before .if2 .left),
+      rows book g lent (o .buffers-fit .ensures) (v .before .before .if1 .left) (v .is-valid-for .ensures) (p .before .before .before .if2 .left),
     )
 
 returns-4 : tie.Need-returns-4
@@ -117,8 +114,8 @@ returns-4 c =
     let g = handed (now (a .book)) (m .before .before .read .ensures) (m .reading .given .1) in
     run-book (now (a .book)) g
     (buffersOf (now (a .t)) (now (a .results)) (now (a .shifts)) (now (a .frame)))
-    (o .buffers-fit .ensures) (v .before .before .if1 .left) (v .is-valid .ensures) (p .before .before .before .if2 .left)
-    (rw (p .before .before .operations .ensures, p .before .errors .ensures, p .choices .ensures) at (u .run .ensures))
+    (o .buffers-fit .ensures) (v .before .before .if1 .left) (v .is-valid-for .ensures) (p .before .before .before .if2 .left)
+    (rw (p .before .before .operations .ensures, p .before .errors .ensures, p .choices .ensures) at (u .run-tableau .ensures))
 
 pub frame-run-spec : {M : Type 1} → statement M
 frame-run-spec =
@@ -137,7 +134,7 @@ frame-run-spec =
     (λ c. refl)
     (λ c. refl)
     returns-2
-    is-valid-requires
+    is-valid-for-requires
     refused-requires-3
     (λ c. refl)
     (λ c. refl)
@@ -147,7 +144,7 @@ frame-run-spec =
     operations-requires
     errors-requires
     choices-requires
-    run-requires
+    run-tableau-requires
     (λ c. c .before .before .before .before .before .before .before .t .given)
     (λ c. c .before .before .before .before .before .results .given)
     (λ c. c .before .before .before .shifts .given)

@@ -1,16 +1,15 @@
 -- `frame_run::run_in` meets its contract.
 -- Assumes nothing.
-use mathlib.Core.Path.{ap, _∙_}
+use mathlib.Core.Path.{refl, ap, _∙_}
 use native.Mathlib.Omega.{arith}
 use denote.Ref.{now}
 use lib.ListN.{length}
 use Rattle.modular.proofs.Listed.{dimension}
 use Rattle.validity.proofs.Exactly.{valid-tableau}
-use Rattle.circuit.specs.Circuit.{measurementCount}
 use Rattle.book.specs.Decoded.{operationsOf, errorsOf}
+use Rattle.runs.specs.Direct.{stateOf}
 use Rattle.runs.proofs.Frames.{no-frame}
 use Rattle.run_laws.proofs.Books.{without-errors}
-use Rattle.frame_run.specs.FrameBook.{buffersOf}
 use Rattle.frame_run.proofs.Ends.{run-ends}
 use borrow.Author.Needs.{needs}
 use Rattle.frame_run.proofs.run_in.Statement.{statement}
@@ -19,7 +18,7 @@ use Rattle.frame_run.proofs.run_in.Tie as tie
 run-requires : tie.Need-run-requires
 run-requires c κs =
     let p = c .before .before .before .before .before .before .before .before .before .before .pre in
-    (p .0 .dimension, p .0 .qudits, without-errors (p .0 .lists), p .1 .results, p .3)
+    (p .0 .dimension, p .0 .qudits, without-errors (p .0 .lists), p .1, p .5)
 
 carry-requires : tie.Need-carry-requires
 carry-requires c κs =
@@ -30,9 +29,9 @@ carry-requires c κs =
         dimension = g .dimension;
         operations = g .lists .operations;
         errors-in-order = g .lists .errors-in-order;
-        room = omega (arith, s .pre .1 .results, g .lists .one-each);
+        room = omega (arith, s .pre .1, g .lists .one-each);
       },
-      rw (s .pre .2) (no-frame (s .args .d) (s .args .n) (omega arith) .powers),
+      rw (s .pre .4) (no-frame (s .args .d) (s .args .n) (omega arith) .powers),
     )
 
 finish-requires : tie.Need-finish-requires
@@ -42,12 +41,12 @@ finish-requires c κs =
     let s = r .before .before .before .before .before .before .before .before .before .before .before in
     let dim = dimension (s .args .d) (s .pre .0 .dimension) in (
       record { low = dim .low; high = dim .high; qudits = s .pre .0 .qudits },
-      s .pre .1 .shifts,
-      s .pre .1 .frame,
+      s .pre .2,
+      s .pre .3,
       valid-tableau _ _ _ (r .run .ensures .2),
       record {
         powers = v .carry .ensures .2;
-        len = v .carry .ensures .3 ∙ ap length (s .pre .2) ∙ no-frame (s .args .d) (s .args .n) (omega arith) .len;
+        len = v .carry .ensures .3 ∙ ap length (s .pre .4) ∙ no-frame (s .args .d) (s .args .n) (omega arith) .len;
       },
     )
 
@@ -60,10 +59,15 @@ returns c =
     let a = s .args in
     let ops = operationsOf (a .d) (a .n) (now (a .ops)) in
     let after = v .carry .ensures in
-    let e = f .finish .ensures in
-    run-ends (a .d) (a .n) ops (errorsOf (now (a .errors))) (now (a .choices)) (measurementCount ops)
-    (buffersOf (now (a .t)) (now (a .results)) (now (a .shifts)) (now (a .out)))
-    (omega (arith, s .pre .1 .results, s .pre .0 .lists .one-each)) (r .run .ensures .1) (r .run .ensures .0) (s .pre .2) (after .0) (after .1) (e .0) (e .1) (e .2) (e .3)
+    let e = f .finish .ensures in (
+      run-ends (a .d) (a .n) ops (errorsOf (now (a .errors))) (now (a .choices)) (stateOf (now (a .rows)) (now (a .results)))
+          (now (a .shifts))
+          (now (a .out))
+          (omega (arith, s .pre .1, s .pre .0 .lists .one-each))
+          (r .run .ensures .0) (s .pre .4) (after .0) (after .1) (e .0) (e .1) (e .2) (e .3),
+      refl,
+      r .run .ensures .1,
+    )
 
 pub run-in-spec : {M : Type 1} → statement M
 run-in-spec =

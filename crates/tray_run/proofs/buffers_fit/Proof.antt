@@ -1,4 +1,4 @@
--- `is_roomy` meets its contract.
+-- `tray_run::buffers_fit` meets its contract.
 -- Assumes nothing.
 use native.Mathlib.Nat.{mul-le-mul}
 use native.Mathlib.Omega.{arith}
@@ -26,11 +26,14 @@ add-result c = search needs
 mul-result-3 : tie.Need-mul-result-3
 mul-result-3 c = omega (arith, sized-bytes (c .args .n) (c .pre .0))
 
+add-result-2 : tie.Need-add-result-2
+add-result-2 c = omega (arith, sized-bytes (c .args .n) (c .pre .0))
+
 mul-result-4 : tie.Need-mul-result-4
 mul-result-4 c = search needs
 
-add-result-2 : tie.Need-add-result-2
-add-result-2 c = search needs
+add-result-3 : tie.Need-add-result-3
+add-result-3 c = search needs
 
 mul-result-5 : tie.Need-mul-result-5
 mul-result-5 c = omega (arith, shots-bytes (c .args .shots) (c .args .measurements) (c .pre .2) (c .pre .1))
@@ -40,4 +43,4 @@ unfolding trayBuffersFit
 returns c = refl
 
 pub buffers-fit-spec : {M : Type 1} → statement M
-buffers-fit-spec = tie.close (tie.spec mul-result mul-result-2 add-result mul-result-3 mul-result-4 add-result-2 mul-result-5 returns)
+buffers-fit-spec = tie.close (tie.spec mul-result mul-result-2 add-result mul-result-3 add-result-2 mul-result-4 add-result-3 mul-result-5 returns)

@@ -1,10 +1,9 @@
--- `tray_run` meets its contract.
+-- `tray_run::tray_run` meets its contract.
 -- Assumes nothing.
 use mathlib.Core.Path.{sym, _∙_}
 use native.Mathlib.Omega.{arith}
 use denote.Ref.{now}
 use borrow.Author.Needs.{needs}
-use Rattle.modular.proofs.Listed.{dimension}
 use Rattle.shots.specs.Shots.{trayByAnswer, trayBook}
 use Rattle.tray.proofs.Table.{table-says, table-inside}
 use Rattle.tray_run.proofs.Books.{failed, held, opened, bad-table, bad-tray, sizes, short-book, rooms, invalid-book, given, most, run-book}
@@ -107,8 +106,8 @@ returns-4 c =
     let room = rw (o .before .before .word .ensures .0) at (o .buffers-fit .ensures) in
     rw (c .refused4 .ensures) (short-book b (now (a .tray)) (now (a .t)) (now (a .out)) table good (failed room (c .before .if2 .taken)))
 
-is-valid-requires : tie.Need-is-valid-requires
-is-valid-requires c κs =
+is-valid-for-requires : tie.Need-is-valid-for-requires
+is-valid-for-requires c κs =
     let o = c .before in
     let p = o .before .before .before .before .before in
     let i = p .before .before in
@@ -120,8 +119,7 @@ is-valid-requires c κs =
     let room = rw (o .before .before .word .ensures .0) at (o .buffers-fit .ensures) in
     let fitting = held room (c .if2 .left) in
     let h = b .hands in
-    let dim = dimension _ (h .dimension) in
-    (dim .low, dim .high, h .qudits, rooms b (now (a .tray)) (now (a .t)) (now (a .out)) table good fitting .0)
+    (h .dimension, h .qudits-sized, rooms b (now (a .tray)) (now (a .t)) (now (a .out)) table good fitting .0)
 
 refused-requires-5 : tie.Need-refused-requires-5
 refused-requires-5 c κs = tt
@@ -142,7 +140,7 @@ returns-5 c =
     let good = sym (p .bad-shot .ensures) ∙ o .before .before .before .enum-told .given .1 in
     let room = rw (o .before .before .word .ensures .0) at (o .buffers-fit .ensures) in
     let fitting = held room (v .before .if2 .left) in
-    rw (c .refused5 .ensures) (invalid-book b (now (a .tray)) (now (a .t)) (now (a .out)) table good fitting (failed (v .is-valid .ensures) (c .before .if3 .taken)))
+    rw (c .refused5 .ensures) (invalid-book b (now (a .tray)) (now (a .t)) (now (a .out)) table good fitting (failed (v .is-valid-for .ensures) (c .before .if3 .taken)))
 
 operations-requires : tie.Need-operations-requires
 operations-requires c κs =
@@ -158,8 +156,8 @@ choices-requires c κs =
     let b = opened (now (a .book)) (m .before .before .read .ensures) (m .reading .given .1) in
     (b .hands .bodies .room, b .hands .bodies .third)
 
-run-requires : tie.Need-run-requires
-run-requires c κs =
+run-shots-requires : tie.Need-run-shots-requires
+run-shots-requires c κs =
     let v = c .before .before .before .before in
     let o = v .before .before in
     let p = o .before .before .before .before .before in
@@ -171,8 +169,12 @@ run-requires c κs =
     let good = sym (p .bad-shot .ensures) ∙ o .before .before .before .enum-told .given .1 in
     let room = rw (o .before .before .word .ensures .0) at (o .buffers-fit .ensures) in
     let fitting = held room (v .before .if2 .left) in
-    let tested = held (v .is-valid .ensures) (c .before .before .before .if3 .left) in
-    rw (c .before .operations .ensures, c .choices .ensures) (given b (now (a .tray)) (now (a .t)) (now (a .out)) table good fitting tested, rooms b (now (a .tray)) (now (a .t)) (now (a .out)) table good fitting .1)
+    let tested = held (v .is-valid-for .ensures) (c .before .before .before .if3 .left) in
+    rw (c .before .operations .ensures, c .choices .ensures) (
+      rooms b (now (a .tray)) (now (a .t)) (now (a .out)) table good fitting .0,
+      given b (now (a .tray)) (now (a .t)) (now (a .out)) table good fitting tested,
+      rooms b (now (a .tray)) (now (a .t)) (now (a .out)) table good fitting .1,
+    )
 
 sub-clean : tie.Need-sub-clean
 sub-clean c =
@@ -188,8 +190,8 @@ sub-clean c =
     let good = sym (p .bad-shot .ensures) ∙ o .before .before .before .enum-told .given .1 in
     let room = rw (o .before .before .word .ensures .0) at (o .buffers-fit .ensures) in
     let fitting = held room (v .before .if2 .left) in
-    let tested = held (v .is-valid .ensures) (r .before .before .before .before .if3 .left) in
-    let filled = rw (r .before .before .operations .ensures, r .before .choices .ensures) at (r .run .ensures) in
+    let tested = held (v .is-valid-for .ensures) (r .before .before .before .before .if3 .left) in
+    let filled = rw (r .before .before .operations .ensures, r .before .choices .ensures) at (r .run-shots .ensures) in
     omega (arith, most b (now (a .tray)) (now (a .t)) (now (a .out)) table good fitting tested (filled .1), o .before .before .word .ensures .0)
 
 same-length-3 : tie.Need-same-length-3
@@ -209,8 +211,8 @@ returns-6 c =
     let good = sym (p .bad-shot .ensures) ∙ o .before .before .before .enum-told .given .1 in
     let room = rw (o .before .before .word .ensures .0) at (o .buffers-fit .ensures) in
     let fitting = held room (v .before .if2 .left) in
-    let tested = held (v .is-valid .ensures) (r .before .before .before .before .if3 .left) in
-    let filled = rw (r .before .before .operations .ensures, r .before .choices .ensures) at (r .run .ensures) in
+    let tested = held (v .is-valid-for .ensures) (r .before .before .before .before .if3 .left) in
+    let filled = rw (r .before .before .operations .ensures, r .before .choices .ensures) at (r .run-shots .ensures) in
     rw (o .before .before .word .ensures .0) (run-book b (now (a .tray)) (now (a .t)) (now (a .out)) table good fitting tested (filled .1) (filled .0))
 
 pub tray-run-spec : {M : Type 1} → statement M
@@ -236,13 +238,13 @@ tray-run-spec =
     refused-requires-4
     same-length
     returns-4
-    is-valid-requires
+    is-valid-for-requires
     refused-requires-5
     same-length-2
     returns-5
     operations-requires
     choices-requires
-    run-requires
+    run-shots-requires
     sub-clean
     same-length-3
     returns-6)

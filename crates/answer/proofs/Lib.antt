@@ -1,2 +1,0 @@
--- What passes the tests of shape.
-pub mod Shape

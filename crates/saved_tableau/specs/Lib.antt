@@ -1,0 +1,4 @@
+pub mod Saved
+pub mod Shape
+pub mod Layer
+pub mod Test
