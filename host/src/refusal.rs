@@ -133,7 +133,7 @@ impl Refusal {
                 "a buffer is shorter than the call needs (a tableau has two bytes, d and n, before its rows)"
             }
             Refusal::InvalidTableau => {
-                "the tableau's first two bytes are not the book's dimension and number of qudits, or it is not valid: a byte of its rows is not below the dimension, or two rows do not pair as they must"
+                "the tableau is not valid (a byte of its rows is not below the dimension, or two rows do not pair as they must), or in a run its first two bytes are not the book's dimension and number of qudits"
             }
             Refusal::Tray => {
                 "not a tray: it has more than 4,096 shots, the errors of a shot are not whole entries or are more than 2,048, or it is not as long as its table of contents says"

@@ -7,7 +7,7 @@ use mathlib.Core.List.{List}
 use Prim.Native.Nat.{ℕ, _≤_}
 use native.Mathlib.Omega.{arith}
 use lib.Dec.{leb}
-use lib.ListN.{length, take, length-drop}
+use lib.ListN.{length, length-drop}
 use borrow.Author.Tests.{leb-true, eq-eqb}
 use Rattle.modular.specs.Dimension.{Dimension, listed}
 use Rattle.modular.proofs.Listed.{dimension}
@@ -17,7 +17,6 @@ use Rattle.validity.specs.Validity.{Valid}
 use Rattle.validity_laws.proofs.Keeping.{zero-valid}
 use Rattle.saved_tableau.specs.Saved.{rowsIn, withRows, tableauBytes, names, validFor}
 use Rattle.saved_tableau.specs.Layer.{layerNumber, layerLeaves}
-use Rattle.saved_tableau.specs.Test.{testNumber}
 use Rattle.saved_tableau.proofs.Rows.{opened, same-bytes}
 use Rattle.saved_tableau.proofs.Exactly.{saved-passes, is-named, valid-rows}
 use Rattle.saved_tableau.proofs.Shape.{shaped}
@@ -32,18 +31,18 @@ use Rattle.run_laws.proofs.Sound.{run-keeps-valid}
 use Rattle.run_laws.proofs.Clean.{frame-keeps-valid}
 use Rattle.direct_run.specs.DirectBook.{DirectLeft, directBuffersFit, directByAnswer, directBook}
 use Rattle.frame_run.specs.FrameBook.{FrameLeft, frameBuffersFit, frameByAnswer, frameBook}
-use Rattle.book_laws.specs.LeavesValid.{LayerLeavesValid, DirectLeavesValid, FrameLeavesValid}
+use Rattle.book_laws.specs.LeavesValid.{StillPasses, LayerLeavesValid, DirectLeavesValid, FrameLeavesValid}
 
 pub layer-leaves-valid : LayerLeavesValid
 unfolding layerNumber layerLeaves
 layer-leaves-valid d n t e =
-    let k = shaped d n t e in
+    let k = shaped d n t 0 e in
     rw (eq-eqb (layerNumber d n t) 0 e)
-    (saved-passes d n _ (k .dimension) (k .qudits) (zero-valid d n (dimension d (k .dimension)) (rowsIn t) (omega (arith, length-drop 2 t, k .room))))
+    (saved-passes d n _ (k .dimension) (k .qudits-sized) (zero-valid d n (dimension d (k .dimension)) (rowsIn t) (omega (arith, length-drop 2 t, k .room))))
 
 -- valid rows behind the two bytes of a tableau that a run takes
 left-valid : {d n : ℕ} (t rows : List ℕ) → listed d ≡ true → sized n ≡ true → tableauBytes n ≤ length t → validFor d n t ≡ true → Valid d n rows
-    → (testNumber (withRows t rows) ≡ 0) × (take 2 (withRows t rows) ≡ take 2 t)
+    → StillPasses t (withRows t rows)
 unfolding validFor
 left-valid {d} {n} t rows h k room e v =
     let two : 2 ≤ length t = omega (arith, room) in
@@ -61,7 +60,7 @@ module _ (s : List ℕ) {d n operations errors choices : ℕ} (e : readBook s �
     abbrev direct-rows : List ℕ
     direct-rows = directRun d n (opsIn s d n) (errorsIn s) (choicesIn s) (stateOf (rowsIn t) results) .rows
 
-    direct-passes : (testNumber (withRows t direct-rows) ≡ 0) × (take 2 (withRows t direct-rows) ≡ take 2 t)
+    direct-passes : StillPasses t (withRows t direct-rows)
     direct-passes =
         left-valid t direct-rows (m .dimension-listed) (m .qudits-sized) room v
         (run-keeps-valid d n dim (opsIn s d n) (errorsIn s) (choicesIn s) (m .lists) (stateOf (rowsIn t) results) (valid-rows t room v))
@@ -70,7 +69,7 @@ module _ (s : List ℕ) {d n operations errors choices : ℕ} (e : readBook s �
       abbrev frame-rows : List ℕ
       frame-rows = frameRun d n (opsIn s d n) (errorsIn s) (choicesIn s) (stateOf (rowsIn t) results) shifts frame .rows
 
-      frame-passes : (testNumber (withRows t frame-rows) ≡ 0) × (take 2 (withRows t frame-rows) ≡ take 2 t)
+      frame-passes : StillPasses t (withRows t frame-rows)
       unfolding frameRun
       frame-passes =
           left-valid t frame-rows (m .dimension-listed) (m .qudits-sized) room v
@@ -97,7 +96,7 @@ direct-leaves-valid s t results =
     s refl
   where
     P : DirectLeft → Type 0
-    P l = l .number ≡ 0 → (testNumber (l .tableau) ≡ 0) × (take 2 (l .tableau) ≡ take 2 t)
+    P l = l .number ≡ 0 → StillPasses t (l .tableau)
 
 pub frame-leaves-valid : FrameLeavesValid
 unfolding frameBook frameByAnswer frameBuffersFit
@@ -120,4 +119,4 @@ frame-leaves-valid s lent =
     s refl
   where
     P : FrameLeft → Type 0
-    P l = l .number ≡ 0 → (testNumber (l .left .tableau) ≡ 0) × (take 2 (l .left .tableau) ≡ take 2 (lent .tableau))
+    P l = l .number ≡ 0 → StillPasses (lent .tableau) (l .left .tableau)

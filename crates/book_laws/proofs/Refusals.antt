@@ -9,13 +9,12 @@ use native.Mathlib.Omega.{arith}
 use lib.Dec.{leb}
 use lib.ListN.{length}
 use borrow.Author.Tests.{ne-eqb}
-use Rattle.modular.specs.Dimension.{among, listed}
+use Rattle.modular.specs.Dimension.{among}
 use Rattle.search.proofs.Search.{unless-cases}
-use Rattle.tableau.specs.Tableau.{sized}
 use Rattle.saved_tableau.specs.Saved.{dimensionIn, quditsIn, selfValid, validFor}
-use Rattle.saved_tableau.specs.Shape.{shapeNumber}
 use Rattle.saved_tableau.specs.Layer.{layerNumber, layerLeaves}
 use Rattle.saved_tableau.specs.Test.{testNumber}
+use Rattle.saved_tableau.proofs.Shape.{shape-cases}
 use Rattle.book_body.specs.Body.{ReaderAnswer, refused, accepted}
 use Rattle.book.specs.Book.{readBook}
 use Rattle.book.proofs.Answers.{read-cases}
@@ -28,21 +27,15 @@ use Rattle.shots.specs.Shots.{trayBook}
 use Rattle.shots.proofs.Refusals.{tray-cases}
 use Rattle.book_laws.specs.Refusals.{runNumbers, trayNumbers, writerNumbers, NumbersListed, WriterNamesBody, LayerUnchanged, WriterUnchanged, DirectUnchanged, FrameUnchanged, TrayUnchanged}
 
--- what holds of 2, 3, 8 and of the rest holds of the tests of shape with that rest
-shape-cases : (P : ℕ → Type 0) (d n : ℕ) (t : List ℕ) (rest : ℕ) → P 2 → P 3 → P 8 → P rest → P (shapeNumber d n t rest)
-shape-cases P d n t rest two three eight goes =
-    unless-cases P (listed d) (λ e. two)
-    (λ e. unless-cases P (sized n) (λ e. three) (λ e. unless-cases P (leb _ (length t)) (λ e. eight) (λ e. goes)))
-
 layer-listed : (d n : ℕ) (t : List ℕ) → among (layerNumber d n t) (0 ∷ 2 ∷ 3 ∷ 8 ∷ []) ≡ true
 unfolding layerNumber
-layer-listed d n t = shape-cases (λ number. among number (0 ∷ 2 ∷ 3 ∷ 8 ∷ []) ≡ true) d n t 0 refl refl refl refl
+layer-listed d n t = shape-cases d n t (λ number. among number (0 ∷ 2 ∷ 3 ∷ 8 ∷ []) ≡ true) 0 refl refl refl refl
 
 test-listed : (t : List ℕ) → among (testNumber t) (0 ∷ 2 ∷ 3 ∷ 8 ∷ 9 ∷ []) ≡ true
 unfolding testNumber
 test-listed t =
     unless-cases P (leb 2 (length t)) (λ e. refl)
-    (λ e. shape-cases P (dimensionIn t) (quditsIn t) t _ refl refl refl (unless-cases P (selfValid t) (λ e. refl) (λ e. refl)))
+    (λ e. shape-cases (dimensionIn t) (quditsIn t) t P _ refl refl refl (unless-cases P (selfValid t) (λ e. refl) (λ e. refl)))
   where
     P : ℕ → Type 0
     P number = among number (0 ∷ 2 ∷ 3 ∷ 8 ∷ 9 ∷ []) ≡ true

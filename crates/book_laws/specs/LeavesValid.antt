@@ -12,12 +12,12 @@ use Rattle.frame_run.specs.FrameBook.{Buffers, frameBook}
 abbrev pub LayerLeavesValid : Type 0
 LayerLeavesValid = (d n : ℕ) (t : List ℕ) → layerNumber d n t ≡ 0 → testNumber (layerLeaves d n t) ≡ 0
 
+-- what a run left of a tableau passes the test, with the same two bytes
+abbrev pub StillPasses : (before after : List ℕ) → Type 0
+StillPasses before after = (testNumber after ≡ 0) × (take 2 after ≡ take 2 before)
+
 abbrev pub DirectLeavesValid : Type 0
-DirectLeavesValid = (s t results : List ℕ) → directBook s t results .number ≡ 0
-    → (testNumber (directBook s t results .tableau) ≡ 0)
-    × (take 2 (directBook s t results .tableau) ≡ take 2 t)
+DirectLeavesValid = (s t results : List ℕ) → directBook s t results .number ≡ 0 → StillPasses t (directBook s t results .tableau)
 
 abbrev pub FrameLeavesValid : Type 0
-FrameLeavesValid = (s : List ℕ) (lent : Buffers) → frameBook s lent .number ≡ 0
-    → (testNumber (frameBook s lent .left .tableau) ≡ 0)
-    × (take 2 (frameBook s lent .left .tableau) ≡ take 2 (lent .tableau))
+FrameLeavesValid = (s : List ℕ) (lent : Buffers) → frameBook s lent .number ≡ 0 → StillPasses (lent .tableau) (frameBook s lent .left .tableau)

@@ -16,7 +16,7 @@ pub extern "C" fn cagvost_layer(t: &mut [u8], d: usize, n: usize) -> Answer
     ensures { λ r. ⌜ (r ≡ record { number = layerNumber d n (now (t .entry)); place = 0 })
         × (now (t .exit) ≡ layerLeaves d n (now (t .entry))) ⌝ }
 {
-    saved_tableau::lay(t, d, n)
+    tableau_calls::lay(t, d, n)
 }
 
 // Tests a tableau for the d and n that it names: 0, or its refusal by 8, 2, 3, 8 or 9.
@@ -24,7 +24,7 @@ pub extern "C" fn cagvost_layer(t: &mut [u8], d: usize, n: usize) -> Answer
 pub extern "C" fn cagvost_test(t: &[u8]) -> Answer
     ensures { λ r. ⌜ r ≡ record { number = testNumber (now (t .entry)); place = 0 } ⌝ }
 {
-    saved_tableau::test(t)
+    tableau_calls::test(t)
 }
 
 // Writes the book of d, n and three bodies, or refuses by 2 to 8.

@@ -122,7 +122,7 @@ pub fn direct_run(book: &[u8], t: &mut [u8], results: &mut [u8]) -> Answer
             place: 0,
         };
     }
-    if !saved_tableau::is_valid_for(t, d, n) {
+    if !tableau_calls::is_valid_for(t, d, n) {
         return Answer {
             number: 9,
             place: 0,

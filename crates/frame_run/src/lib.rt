@@ -177,7 +177,7 @@ pub fn frame_run(
     if !buffers_fit(t, results, shifts, frame, numbers.choices, n) {
         return refused(8, 0);
     }
-    if !saved_tableau::is_valid_for(t, d, n) {
+    if !tableau_calls::is_valid_for(t, d, n) {
         return refused(9, 0);
     }
     let ops = book::operations(book);

@@ -1,14 +1,14 @@
 -- The tests of a saved tableau test exactly what makes it valid.
 -- Assumes nothing.
-use mathlib.Core.Path.{_≡_, _∙_}
-use mathlib.Core.Bool.{true}
+use mathlib.Core.Path.{_≡_, sym, _∙_}
+use mathlib.Core.Bool.{Bool, true, _&&_}
 use mathlib.Core.Logic.{_↔_}
 use mathlib.Core.List.{List, _∷_}
 use Prim.Native.Nat.{ℕ, _≤_}
 use native.Mathlib.Omega.{arith}
 use lib.Dec.{eqb, leb}
 use lib.ListN.{length, length-drop}
-use borrow.Author.Tests.{leb-true, le-leb, eqb-true, eq-eqb}
+use borrow.Author.Tests.{le-leb, eqb-true, eq-eqb}
 use Rattle.modular.specs.Dimension.{listed}
 use Rattle.modular.proofs.Listed.{dimension}
 use Rattle.search.proofs.Search.{both, met}
@@ -17,12 +17,16 @@ use Rattle.validity.specs.Validity.{Valid, valid}
 use Rattle.validity.proofs.Exactly.{valid-exactly}
 use Rattle.saved_tableau.specs.Saved.{dimensionIn, quditsIn, rowsIn, tableauBytes, selfValid, SelfValid, SelfValidExactly, names, validFor}
 use Rattle.saved_tableau.specs.Test.{testNumber, TestExactly}
+use Rattle.saved_tableau.proofs.Shape.{shaped}
+
+true-and : (a b : Bool) → a ≡ true → a && b ≡ b
+true-and a b e = rw e
 
 module _ (t : List ℕ) where
   -- where both bytes are in range, the rows decide
   pub rows-decide : listed (dimensionIn t) ≡ true → sized (quditsIn t) ≡ true → selfValid t ≡ valid (dimensionIn t) (quditsIn t) (rowsIn t)
   unfolding selfValid
-  rows-decide h k = rw (h, k)
+  rows-decide h k = true-and (listed (dimensionIn t)) _ h ∙ true-and (sized (quditsIn t)) _ k
 
   module _ (room : tableauBytes (quditsIn t) ≤ length t) where
     rows-exactly : listed (dimensionIn t) ≡ true
@@ -47,11 +51,9 @@ passed : (t : List ℕ) → testNumber t ≡ 0 → (tableauBytes (quditsIn t) �
 unfolding testNumber
 passed t e =
     let p = met (leb 2 (length t)) (λ z. omega arith) e in
-    let p2 = met (listed (dimensionIn t)) (λ z. omega arith) (p .1) in
-    let p3 = met (sized (quditsIn t)) (λ z. omega arith) (p2 .1) in
-    let p8 = met (leb (tableauBytes (quditsIn t)) (length t)) (λ z. omega arith) (p3 .1) in
-    let p9 = met (selfValid t) (λ z. omega arith) (p8 .1) in
-    (leb-true _ _ (p8 .0), p9 .0)
+    let k = shaped (dimensionIn t) (quditsIn t) t _ (p .1) in
+    let p9 = met (selfValid t) (λ z. omega arith) (sym (k .rest-decides _) ∙ p .1) in
+    (k .room, p9 .0)
 
 passes : (t : List ℕ) → (tableauBytes (quditsIn t) ≤ length t) × (selfValid t ≡ true) → testNumber t ≡ 0
 unfolding testNumber

@@ -1,5 +1,5 @@
--- Worked cases, laws of the layout, and what the proofs of several functions use.
-pub mod Rows
-pub mod Exactly
-pub mod Shape
+-- Worked cases, laws of the layout, and that the tests are exact.
 pub mod Cases
+pub mod Rows
+pub mod Shape
+pub mod Exactly

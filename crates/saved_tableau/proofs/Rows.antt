@@ -1,7 +1,7 @@
 -- The rows behind the two bytes, as a part of the buffer.
 -- Assumes nothing.
 use mathlib.Core.Path.{_≡_, refl, ap, _∙_}
-use mathlib.Core.List.{List, [], _∷_, _++_}
+use mathlib.Core.List.{List, [], _∷_, _++_, append-nil}
 use Prim.Native.Nat.{ℕ, zero, suc, _+_, _-_, _<_, _≤_}
 use native.Mathlib.Omega.{arith}
 use lib.ListN.{length, getD, take, drop, set, length-drop, drop-of-length-le}
@@ -11,10 +11,6 @@ use Rattle.saved_tableau.specs.Saved.{dimensionIn, quditsIn, rowsIn, wit
 
 pub rows-part : (t : List ℕ) → take (length t - 2) (drop 2 t) ≡ rowsIn t
 rows-part t = take-all (length t - 2) (drop 2 t) (omega (arith, length-drop 2 t))
-
-append-nil : (ys : List ℕ) → ys ++ [] ≡ ys
-append-nil [] = refl
-append-nil (y ∷ ys) = ap (λ (r : List ℕ). y ∷ r) (append-nil ys)
 
 pub rows-put : (t ys : List ℕ) → putMid 2 (length t - 2) t ys ≡ withRows t ys
 rows-put t ys =

@@ -73,7 +73,7 @@ fn list(book: &[u8], numbers: Numbers) {
     let mut shifts = [0u8; 128];
     let mut frame = [0u8; 128];
     let n = numbers.n;
-    saved_tableau::lay(&mut t, casts::byte_as_usize(numbers.d), n);
+    tableau_calls::lay(&mut t, casts::byte_as_usize(numbers.d), n);
     let answer = frame_run::frame_run(book, &mut t, &mut results, &mut shifts, &mut frame);
     if answer.number != 0 {
         refuse(answer.number, answer.place);

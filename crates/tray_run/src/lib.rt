@@ -83,7 +83,7 @@ pub fn tray_run(book: &[u8], tray: &[u8], t: &[u8], out: &mut [u8]) -> TrayAnswe
     if !buffers_fit(t, out, numbers.choices, shots, n) {
         return refused(8, 0);
     }
-    if !saved_tableau::is_valid_for(t, d, n) {
+    if !tableau_calls::is_valid_for(t, d, n) {
         return refused(9, 0);
     }
     let shifted = run_shots(
