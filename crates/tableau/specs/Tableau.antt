@@ -1,4 +1,4 @@
--- A tableau: 2n rows of 2n + 1 bytes. Destabilizers 0 to n−1 come first, then stabilizers 0 to n−1. Bytes past them are kept.
+-- The rows of a tableau: 2n rows of 2n + 1 bytes. Destabilizers 0 to n−1 come first, then stabilizers 0 to n−1. Bytes past them are kept.
 use mathlib.Core.Bool.{Bool, _&&_}
 use mathlib.Core.List.{List, _++_}
 use Prim.Native.Nat.{ℕ, zero, suc, _+_, _*_, _<_, _≤_}

@@ -11,7 +11,7 @@ use Rattle.row.specs.Row.{pairing}
 use Rattle.search.specs.Search.{all}
 use Rattle.tableau.specs.Tableau.{row}
 
--- A tableau is valid when every byte is below d, stabilizer i paired with destabilizer i gives 1, and any two rows that aren't
+-- A tableau's rows are valid when every byte is below d, stabilizer i paired with destabilizer i gives 1, and any two rows that aren't
 -- such partners give 0. Each two rows are paired once, the later with the earlier.
 abbrev pub byteBelow : ℕ → List ℕ → ℕ → Bool
 byteBelow d t k = ltb (getD t k 0) d
