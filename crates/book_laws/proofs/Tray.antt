@@ -135,7 +135,7 @@ module _ (s tray t out : List ℕ) {d n operations errors choices : ℕ} (e : re
       bytes =
           shot-at d n (opsIn s d n) (choicesIn s) (rowsIn t) tray out (shotsIn tray) i l (rooms .1)
           ∙ shot-any d n (omega (arith, dim .low)) (opsIn s d n) (errorsOf (shotBody tray i)) (choicesIn s) (rowsIn t) (lent .results) (lent .shifts) (lent .frame)
-          (omega (arith, length-drop 2 t, rooms .0)) (rw count (room-of n choices lent fitting .results))
+          (omega (arith, length-drop 2 t, rooms .0)) (rw count (room-of n choices lent fitting .1 .results-room))
 
       shot-runs : ShotRuns d n operations choices s tray i lent filled
       shot-runs =

@@ -3,7 +3,7 @@
 use mathlib.Core.Path.{_≡_, sym, _∙_}
 use mathlib.Core.Bool.{Bool, true, false, not}
 use mathlib.Core.List.{List}
-use Prim.Native.Nat.{ℕ, _*_}
+use Prim.Native.Nat.{ℕ, _*_, _≤_}
 use lib.Dec.{leb}
 use lib.ListN.{length}
 use borrow.Author.Tests.{leb-true, not-true, not-false}
@@ -15,18 +15,14 @@ use Rattle.book.specs.Book.{partOf}
 use Rattle.book.proofs.Handed.{Handed}
 use Rattle.frame_run.specs.FrameBook.{Buffers, FrameLeft, frameBuffersFit, Room, frameRefused, frameBodies, frameByAnswer, frameBook}
 
-pub room-of : (n measurements : ℕ) (lent : Buffers) → frameBuffersFit n measurements lent ≡ true → Room n measurements lent
+pub room-of : (n measurements : ℕ) (lent : Buffers) → frameBuffersFit n measurements lent ≡ true
+    → (tableauBytes n ≤ length (lent .tableau)) × Room n measurements (lent .results) (lent .shifts) (lent .frame)
 unfolding frameBuffersFit
 room-of n measurements lent e =
     let a = both (leb (tableauBytes n) (length (lent .tableau))) _ e in
     let b = both (leb (2 * measurements) (length (lent .results))) _ (a .1) in
     let c = both (leb (2 * n) (length (lent .shifts))) (leb (2 * n) (length (lent .frame))) (b .1) in
-    record {
-      tableau = leb-true _ _ (a .0);
-      results = leb-true _ _ (b .0);
-      shifts = leb-true _ _ (c .0);
-      frame = leb-true _ _ (c .1);
-    }
+    (leb-true _ _ (a .0), record { results-room = leb-true _ _ (b .0); shifts-room = leb-true _ _ (c .0); frame-room = leb-true _ _ (c .1) })
 
 module _ (s : List ℕ) {d n choices : ℕ} (g : Handed s d n choices) (lent : Buffers) where
   -- 8
@@ -39,8 +35,8 @@ module _ (s : List ℕ) {d n choices : ℕ} (g : Handed s d n choices) (lent : B
     fitting : frameBuffersFit n choices lent ≡ true
     fitting = sym r ∙ not-false b h
 
-    pub room : Room n choices lent
-    room = room-of n choices lent fitting
+    pub rooms : (tableauBytes n ≤ length (lent .tableau)) × Room n choices (lent .results) (lent .shifts) (lent .frame)
+    rooms = room-of n choices lent fitting
 
     -- 9
     pub invalid-book : {v : Bool} → v ≡ validFor d n (lent .tableau) → not v ≡ true → frameRefused 9 0 lent ≡ frameBook s lent
@@ -53,7 +49,7 @@ module _ (s : List ℕ) {d n choices : ℕ} (g : Handed s d n choices) (lent : B
       tested = sym e ∙ not-false v k
 
       pub rows : Valid d n (rowsIn (lent .tableau))
-      rows = valid-rows (lent .tableau) (room .tableau) tested
+      rows = valid-rows (lent .tableau) (rooms .0) tested
 
       pub run-book : {left : FrameLeft}
           → left ≡ frameBodies d n (partOf s 4) (partOf s 10) (partOf s 16) lent

@@ -45,12 +45,11 @@ frameBuffersFit n measurements lent =
     leb (tableauBytes n) (length (lent .tableau)) && (leb (2 * measurements) (length (lent .results))
     && (leb (2 * n) (length (lent .shifts)) && leb (2 * n) (length (lent .frame))))
 
--- the same as facts, for a run that is past 8
-pub record Room (n measurements : ℕ) (lent : Buffers) : Type 0 where
-  pub tableau : tableauBytes n ≤ length (lent .tableau)
-  pub results : 2 * measurements ≤ length (lent .results)
-  pub shifts : 2 * n ≤ length (lent .shifts)
-  pub frame : 2 * n ≤ length (lent .frame)
+-- the same as facts, of the buffers beside the tableau
+pub record Room (n measurements : ℕ) (results shifts frame : List ℕ) : Type 0 where
+  pub results-room : 2 * measurements ≤ length results
+  pub shifts-room : 2 * n ≤ length shifts
+  pub frame-room : 2 * n ≤ length frame
 
 -- Success returns 0, the number of measurements and, as a third number, the verdict: 0 clean, 1 shifted. The tableau's first two bytes
 -- stay as they are.

@@ -1,9 +1,9 @@
 // The frame run.
 ghost use mathlib.Core.Path.{_≡_};
-ghost use Prim.Native.Nat.{_*_, _≤_};
+ghost use Prim.Native.Nat.{_≤_};
 ghost use lib.ListN.{length};
 ghost use Rattle.validity.specs.Validity.{Valid};
-ghost use Rattle.saved_tableau.specs.Saved.{rowsIn};
+ghost use Rattle.saved_tableau.specs.Saved.{rowsIn, tableauBytes};
 ghost use Rattle.circuit.specs.Circuit.{measurementCount};
 ghost use Rattle.book.specs.Decoded.{operationsOf, errorsOf, Bodies};
 ghost use Rattle.runs.specs.Direct.{stateOf};
@@ -44,9 +44,7 @@ fn run_in(
     n: usize,
 ) -> FrameAnswer
     requires { ⌜ Bodies d n (now ops) (now errors) (now choices)
-        × (2 * length (now choices) ≤ length (now results))
-        × (2 * n ≤ length (now shifts))
-        × (2 * n ≤ length (now out))
+        × Room n (length (now choices)) (now results) (now shifts) (now out)
         × (now frame ≡ noFrame n)
         × Valid d n (now rows) ⌝ }
     ensures { λ r. ⌜ (endOf r (now (rows .exit)) (now (results .exit)) (now (shifts .exit)) (now (out .exit))
@@ -78,9 +76,7 @@ fn run(
     n: usize,
 ) -> FrameAnswer
     requires { ⌜ Bodies d n (now ops) (now errors) (now choices)
-        × (2 * length (now choices) ≤ length (now results))
-        × (2 * n ≤ length (now shifts))
-        × (2 * n ≤ length (now out))
+        × Room n (length (now choices)) (now results) (now shifts) (now out)
         × Valid d n (now rows) ⌝ }
     ensures { λ r. ⌜ (endOf r (now (rows .exit)) (now (results .exit)) (now (shifts .exit)) (now (out .exit))
         ≡ frameRun d n (operationsOf d n (now (ops .entry))) (errorsOf (now (errors .entry))) (now (choices .entry))
@@ -117,7 +113,8 @@ fn run_tableau(
     n: usize,
 ) -> FrameAnswer
     requires { ⌜ Bodies d n (now ops) (now errors) (now choices)
-        × Room n (length (now choices)) (buffersOf (now t) (now results) (now shifts) (now out))
+        × Room n (length (now choices)) (now results) (now shifts) (now out)
+        × (tableauBytes n ≤ length (now t))
         × Valid d n (rowsIn (now t)) ⌝ }
     ensures { λ r. ⌜ frameLeft r (buffersOf (now (t .exit)) (now (results .exit)) (now (shifts .exit)) (now (out .exit)))
         ≡ frameBodies d n (now (ops .entry)) (now (errors .entry)) (now (choices .entry))

@@ -5,7 +5,7 @@ use denote.Ref.{now}
 use borrow.Author.Needs.{needs}
 use Rattle.book.proofs.Handed.{handed, bodies-of}
 use Rattle.frame_run.specs.FrameBook.{buffersOf, frameByAnswer, frameBook}
-use Rattle.frame_run.proofs.Books.{short-book, room, invalid-book, rows, run-book}
+use Rattle.frame_run.proofs.Books.{short-book, rooms, invalid-book, rows, run-book}
 use Rattle.frame_run.proofs.frame_run.Statement.{statement}
 use Rattle.frame_run.proofs.frame_run.Tie as tie
 
@@ -44,10 +44,10 @@ is-valid-for-requires c κs =
     let a = m .before .before .before .before .before .before .before .before .args in
     let g = handed (now (a .book)) (m .before .before .read .ensures) (m .reading .given .1) in
     let r =
-    room (now (a .book)) g
+    rooms (now (a .book)) g
     (buffersOf (now (a .t)) (now (a .results)) (now (a .shifts)) (now (a .frame)))
     (o .buffers-fit .ensures) (c .before .if1 .left) in
-    (g .dimension, g .qudits-sized, r .tableau)
+    (g .dimension, g .qudits-sized, r .0)
 
 refused-requires-3 : tie.Need-refused-requires-3
 refused-requires-3 c κs = tt
@@ -94,12 +94,13 @@ run-tableau-requires c κs =
     let book = now (a .book) in
     let g = handed book (m .before .before .read .ensures) (m .reading .given .1) in
     let lent = buffersOf (now (a .t)) (now (a .results)) (now (a .shifts)) (now (a .frame)) in
-    let r = room book g lent (o .buffers-fit .ensures) (v .before .before .if1 .left) in
+    let r = rooms book g lent (o .buffers-fit .ensures) (v .before .before .if1 .left) in
     let b1 = p .before .before .operations .ensures in
     let b2 = p .before .errors .ensures in
     let b3 = p .choices .ensures in (
       bodies-of book g b1 b2 b3,
-      record { tableau = r .tableau; results = rw (b3, g .room) (r .results); shifts = r .shifts; frame = r .frame },
+      rw (b3, g .room) (r .1),
+      r .0,
       rows book g lent (o .buffers-fit .ensures) (v .before .before .if1 .left) (v .is-valid-for .ensures) (p .before .before .before .if2 .left),
     )
 

@@ -19,7 +19,7 @@ run-in-requires : tie.Need-run-in-requires
 run-in-requires c κs =
     let s = c .before .before .before .before .before .before .before .before .before .before .before .before in
     let p = s .pre in
-    (p .0, p .1, p .2, p .3, take-replicate 0 (2 * s .args .n) 128 (omega arith), p .4)
+    (p .0, p .1, take-replicate 0 (2 * s .args .n) 128 (omega arith), p .2)
 
 pub run-spec : {M : Type 1} → statement M
 run-spec =

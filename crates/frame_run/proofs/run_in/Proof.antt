@@ -18,7 +18,7 @@ use Rattle.frame_run.proofs.run_in.Tie as tie
 run-requires : tie.Need-run-requires
 run-requires c κs =
     let p = c .before .before .before .before .before .before .before .before .before .before .pre in
-    (p .0 .dimension, p .0 .qudits, without-errors (p .0 .lists), p .1, p .5)
+    (p .0 .dimension, p .0 .qudits, without-errors (p .0 .lists), p .1 .results-room, p .3)
 
 carry-requires : tie.Need-carry-requires
 carry-requires c κs =
@@ -29,9 +29,9 @@ carry-requires c κs =
         dimension = g .dimension;
         operations = g .lists .operations;
         errors-in-order = g .lists .errors-in-order;
-        room = omega (arith, s .pre .1, g .lists .one-each);
+        room = omega (arith, s .pre .1 .results-room, g .lists .one-each);
       },
-      rw (s .pre .4) (no-frame (s .args .d) (s .args .n) (omega arith) .powers),
+      rw (s .pre .2) (no-frame (s .args .d) (s .args .n) (omega arith) .powers),
     )
 
 finish-requires : tie.Need-finish-requires
@@ -41,12 +41,12 @@ finish-requires c κs =
     let s = r .before .before .before .before .before .before .before .before .before .before .before in
     let dim = dimension (s .args .d) (s .pre .0 .dimension) in (
       record { low = dim .low; high = dim .high; qudits = s .pre .0 .qudits },
-      s .pre .2,
-      s .pre .3,
+      s .pre .1 .shifts-room,
+      s .pre .1 .frame-room,
       valid-tableau _ _ _ (r .run .ensures .2),
       record {
         powers = v .carry .ensures .2;
-        len = v .carry .ensures .3 ∙ ap length (s .pre .4) ∙ no-frame (s .args .d) (s .args .n) (omega arith) .len;
+        len = v .carry .ensures .3 ∙ ap length (s .pre .2) ∙ no-frame (s .args .d) (s .args .n) (omega arith) .len;
       },
     )
 
@@ -63,8 +63,8 @@ returns c =
       run-ends (a .d) (a .n) ops (errorsOf (now (a .errors))) (now (a .choices)) (stateOf (now (a .rows)) (now (a .results)))
           (now (a .shifts))
           (now (a .out))
-          (omega (arith, s .pre .1, s .pre .0 .lists .one-each))
-          (r .run .ensures .0) (s .pre .4) (after .0) (after .1) (e .0) (e .1) (e .2) (e .3),
+          (omega (arith, s .pre .1 .results-room, s .pre .0 .lists .one-each))
+          (r .run .ensures .0) (s .pre .2) (after .0) (after .1) (e .0) (e .1) (e .2) (e .3),
       refl,
       r .run .ensures .1,
     )

@@ -10,7 +10,7 @@ use Rattle.frame_run.proofs.run_tableau.Tie as tie
 run-requires : tie.Need-run-requires
 run-requires c κs =
     let s = c .before .before .before .before .before .before .before .before .before .before .before in
-    (s .pre .0, s .pre .1 .results, s .pre .1 .shifts, s .pre .1 .frame, rw (rows-part (now (s .args .t))) (s .pre .2))
+    (s .pre .0, s .pre .1, rw (rows-part (now (s .args .t))) (s .pre .3))
 
 returns : tie.Need-returns
 returns c =
