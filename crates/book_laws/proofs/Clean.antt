@@ -8,7 +8,7 @@ use Rattle.modular.specs.Dimension.{Dimension}
 use Rattle.modular.proofs.Listed.{dimension}
 use Rattle.row.specs.Row.{tab}
 use Rattle.saved_tableau.specs.Saved.{rowsIn}
-use Rattle.saved_tableau.proofs.Rows.{rows-back}
+use Rattle.saved_tableau_laws.proofs.Rows.{rows-back}
 use Rattle.book_body.specs.Body.{accepted}
 use Rattle.book.specs.Book.{readBook}
 use Rattle.book.specs.Decoded.{Means, errorsOf, opsIn, errorsIn, choicesIn, measurementsIn}

@@ -5,7 +5,7 @@ use Prim.Native.Nat.{_+_, _*_}
 use native.Mathlib.Omega.{arith}
 use Rattle.modular.proofs.Listed.{dimension}
 use Rattle.saved_tableau.specs.Saved.{rowsIn}
-use Rattle.saved_tableau.proofs.Rows.{bytes-alike}
+use Rattle.saved_tableau_laws.proofs.Rows.{bytes-alike}
 use Rattle.book.specs.Decoded.{opsIn, errorsIn, choicesIn}
 use Rattle.book.proofs.Meaning.{accepted-means}
 use Rattle.run_laws.proofs.Buffers.{runs-agree}

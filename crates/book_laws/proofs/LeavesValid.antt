@@ -17,9 +17,9 @@ use Rattle.validity.specs.Validity.{Valid}
 use Rattle.validity_laws.proofs.Keeping.{zero-valid}
 use Rattle.saved_tableau.specs.Saved.{rowsIn, withRows, tableauBytes, names, validFor}
 use Rattle.saved_tableau.specs.Layer.{layerNumber, layerLeaves}
-use Rattle.saved_tableau.proofs.Rows.{opened, same-bytes}
-use Rattle.saved_tableau.proofs.Exactly.{saved-passes, is-named, valid-rows}
-use Rattle.saved_tableau.proofs.Shape.{shaped}
+use Rattle.saved_tableau_laws.proofs.Rows.{opened, same-bytes}
+use Rattle.saved_tableau_laws.proofs.Exactly.{saved-passes, is-named, valid-rows}
+use Rattle.saved_tableau_laws.proofs.Shape.{shaped}
 use Rattle.book_body.specs.Body.{accepted}
 use Rattle.book.specs.Book.{readBook}
 use Rattle.book.specs.Decoded.{Means, opsIn, errorsIn, choicesIn, measurementsIn}

@@ -9,8 +9,9 @@ use lib.ListN.{length, getD, length-drop}
 use lib.Seq.{getD-drop}
 use borrow.Author.Tests.{le-leb}
 use Rattle.validity.specs.Validity.{Valid}
-use Rattle.saved_tableau.specs.Saved.{dimensionIn, quditsIn, rowsIn, tableauBytes, SelfValid, validFor}
-use Rattle.saved_tableau.proofs.Exactly.{self-valid-exactly, valid-for, valid-rows}
+use Rattle.saved_tableau.specs.Saved.{dimensionIn, quditsIn, rowsIn, tableauBytes, validFor}
+use Rattle.saved_tableau_laws.specs.Exactly.{SelfValid}
+use Rattle.saved_tableau_laws.proofs.Exactly.{self-valid-exactly, valid-for, valid-rows}
 use Rattle.book_body.specs.Body.{accepted}
 use Rattle.book.specs.Book.{readBook}
 use Rattle.book.specs.Decoded.{opsIn, errorsIn, choicesIn, measurementsIn}

@@ -14,7 +14,7 @@ use Rattle.search.proofs.Search.{unless-cases}
 use Rattle.saved_tableau.specs.Saved.{dimensionIn, quditsIn, selfValid, validFor}
 use Rattle.saved_tableau.specs.Layer.{layerNumber, layerLeaves}
 use Rattle.saved_tableau.specs.Test.{testNumber}
-use Rattle.saved_tableau.proofs.Shape.{shape-cases}
+use Rattle.saved_tableau_laws.proofs.Shape.{shape-cases}
 use Rattle.book_body.specs.Body.{ReaderAnswer, refused, accepted}
 use Rattle.book.specs.Book.{readBook}
 use Rattle.book.proofs.Answers.{read-cases}

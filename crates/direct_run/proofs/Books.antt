@@ -9,7 +9,7 @@ use lib.ListN.{length}
 use borrow.Author.Tests.{leb-true, not-true, not-false}
 use Rattle.validity.specs.Validity.{Valid}
 use Rattle.saved_tableau.specs.Saved.{rowsIn, tableauBytes, validFor}
-use Rattle.saved_tableau.proofs.Exactly.{valid-rows}
+use Rattle.saved_tableau_laws.proofs.Exactly.{valid-rows}
 use Rattle.book.specs.Book.{partOf}
 use Rattle.book.proofs.Handed.{Handed}
 use Rattle.direct_run.specs.DirectBook.{DirectLeft, directBuffersFit, directBodies, directByAnswer, directBook}

@@ -47,31 +47,9 @@ fn run_by(
     at.measurements
 }
 
-// The run of three bodies on rows, by tables that are made once for all its steps. The number of measurements.
+// The run of three bodies on a tableau, whose first two bytes stay, by tables that are made once for all its steps: 0 and the number
+// of measurements.
 fn run(
-    rows: &mut [u8],
-    results: &mut [u8],
-    ops: &[u8],
-    errors: &[u8],
-    choices: &[u8],
-    d: u8,
-    n: usize,
-) -> usize
-    requires { ⌜ Bodies d n (now ops) (now errors) (now choices)
-        × (2 * length (now choices) ≤ length (now results))
-        × Valid d n (now rows) ⌝ }
-    ensures { λ r. ⌜ (stateOf (now (rows .exit)) (now (results .exit))
-        ≡ directRun d n (operationsOf d n (now (ops .entry))) (errorsOf (now (errors .entry))) (now (choices .entry))
-        (stateOf (now (rows .entry)) (now (results .entry))))
-        × (r ≡ measurementCount (operationsOf d n (now (ops .entry)))) ⌝ }
-{
-    let mut tables = [0u8; 1152];
-    tables::make(&mut tables, d);
-    run_by(rows, results, ops, errors, choices, &tables, d, n)
-}
-
-// The run of three bodies on a tableau, whose first two bytes stay: 0 and the number of measurements.
-fn run_tableau(
     t: &mut [u8],
     results: &mut [u8],
     ops: &[u8],
@@ -87,7 +65,9 @@ fn run_tableau(
     ensures { λ r. ⌜ directLeft r (now (t .exit)) (now (results .exit))
         ≡ directBodies d n (now (ops .entry)) (now (errors .entry)) (now (choices .entry)) (now (t .entry)) (now (results .entry)) ⌝ }
 {
-    let place = run(&mut t[2..], results, ops, errors, choices, d, n);
+    let mut tables = [0u8; 1152];
+    tables::make(&mut tables, d);
+    let place = run_by(&mut t[2..], results, ops, errors, choices, &tables, d, n);
     Answer { number: 0, place }
 }
 
@@ -131,5 +111,5 @@ pub fn direct_run(book: &[u8], t: &mut [u8], results: &mut [u8]) -> Answer
     let ops = book::operations(book);
     let errors = book::errors(book);
     let choices = book::choices(book);
-    run_tableau(t, results, ops, errors, choices, d, n)
+    run(t, results, ops, errors, choices, d, n)
 }

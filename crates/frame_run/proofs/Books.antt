@@ -10,7 +10,7 @@ use borrow.Author.Tests.{leb-true, not-true, not-false}
 use Rattle.search.proofs.Search.{both}
 use Rattle.validity.specs.Validity.{Valid}
 use Rattle.saved_tableau.specs.Saved.{rowsIn, tableauBytes, validFor}
-use Rattle.saved_tableau.proofs.Exactly.{valid-rows}
+use Rattle.saved_tableau_laws.proofs.Exactly.{valid-rows}
 use Rattle.book.specs.Book.{partOf}
 use Rattle.book.proofs.Handed.{Handed}
 use Rattle.frame_run.specs.FrameBook.{Buffers, FrameLeft, frameBuffersFit, Room, frameRefused, frameBodies, frameByAnswer, frameBook}

@@ -8,7 +8,7 @@ use borrow.Rule.Slice.PartMut.{putMid}
 use Rattle.row.specs.Row.{tab}
 use Rattle.operation.specs.declared.Operation.{Operation}
 use Rattle.operation.specs.declared.WeylError.{WeylError}
-use Rattle.saved_tableau.proofs.Rows.{rows-put}
+use Rattle.saved_tableau_laws.proofs.Rows.{rows-put}
 use Rattle.circuit.specs.Circuit.{measured}
 use Rattle.runs.specs.Direct.{State, directRun}
 use Rattle.runs.specs.Frame.{FrameEnd, noFrame, shiftAt, shiftRows, verdictOf, frameLeaves, frameRun}

@@ -63,45 +63,8 @@ fn run_in(
     }
 }
 
-// The frame run of three bodies on rows, with room for the longest frame.
+// The frame run of three bodies on a tableau, whose first two bytes stay, with room for the longest frame.
 fn run(
-    rows: &mut [u8],
-    results: &mut [u8],
-    shifts: &mut [u8],
-    out: &mut [u8],
-    ops: &[u8],
-    errors: &[u8],
-    choices: &[u8],
-    d: u8,
-    n: usize,
-) -> FrameAnswer
-    requires { ⌜ Bodies d n (now ops) (now errors) (now choices)
-        × Room n (length (now choices)) (now results) (now shifts) (now out)
-        × Valid d n (now rows) ⌝ }
-    ensures { λ r. ⌜ (endOf r (now (rows .exit)) (now (results .exit)) (now (shifts .exit)) (now (out .exit))
-        ≡ frameRun d n (operationsOf d n (now (ops .entry))) (errorsOf (now (errors .entry))) (now (choices .entry))
-        (stateOf (now (rows .entry)) (now (results .entry))) (now (shifts .entry)) (now (out .entry)))
-        × (r .number ≡ 0)
-        × (r .place ≡ measurementCount (operationsOf d n (now (ops .entry)))) ⌝ }
-{
-    let mut frame = [0u8; 128];
-    let powers = 2 * n;
-    run_in(
-        rows,
-        results,
-        shifts,
-        out,
-        &mut frame[..powers],
-        ops,
-        errors,
-        choices,
-        d,
-        n,
-    )
-}
-
-// The frame run of three bodies on a tableau, whose first two bytes stay.
-fn run_tableau(
     t: &mut [u8],
     results: &mut [u8],
     shifts: &mut [u8],
@@ -120,11 +83,14 @@ fn run_tableau(
         ≡ frameBodies d n (now (ops .entry)) (now (errors .entry)) (now (choices .entry))
         (buffersOf (now (t .entry)) (now (results .entry)) (now (shifts .entry)) (now (out .entry))) ⌝ }
 {
-    run(
+    let mut frame = [0u8; 128];
+    let powers = 2 * n;
+    run_in(
         &mut t[2..],
         results,
         shifts,
         out,
+        &mut frame[..powers],
         ops,
         errors,
         choices,
@@ -180,5 +146,5 @@ pub fn frame_run(
     let ops = book::operations(book);
     let errors = book::errors(book);
     let choices = book::choices(book);
-    run_tableau(t, results, shifts, frame, ops, errors, choices, d, n)
+    run(t, results, shifts, frame, ops, errors, choices, d, n)
 }

@@ -9,8 +9,7 @@ use Rattle.conjugation.specs.Conjugation.{RowSpelled, GateConjugates, GateDeter
 use Rattle.conjugation.specs.Repeated.{RowRepeats, RowsRepeat, FrameRepeats}
 use Rattle.validity.specs.Validity.{ValidExactly}
 use Rattle.validity_laws.specs.Keeping.{ZeroValid, GateKeepsValid, ErrorKeepsValid}
-use Rattle.saved_tableau.specs.Saved.{SelfValidExactly}
-use Rattle.saved_tableau.specs.Test.{TestExactly}
+use Rattle.saved_tableau_laws.specs.Exactly.{SelfValidExactly, TestExactly}
 use Rattle.measurement_laws.specs.Measurement.{AllDifferent, CollapseKeepsValid, CertainIsZ, CertainExactly, OneMember, CollapseGenerates}
 use Rattle.book_entries.specs.Entry.{DecodedExactly}
 use Rattle.book.specs.Decoded.{AcceptedMeans}
@@ -49,7 +48,7 @@ use Rattle.conjugation.proofs.Errors as errors
 use Rattle.conjugation.proofs.Repeated as repeated
 use Rattle.validity.proofs.Exactly as exactly
 use Rattle.validity_laws.proofs.Keeping as kept
-use Rattle.saved_tableau.proofs.Exactly as saved
+use Rattle.saved_tableau_laws.proofs.Exactly as saved
 use Rattle.measurement_laws.proofs.Combination as combination
 use Rattle.measurement_laws.proofs.Certain as certain
 use Rattle.measurement_laws.proofs.Free as free

@@ -1,5 +1,2 @@
--- Worked cases, laws of the layout, and that the tests are exact.
+-- Worked cases.
 pub mod Cases
-pub mod Rows
-pub mod Shape
-pub mod Exactly

@@ -1,14 +1,12 @@
 -- Saved tableaus that name themselves: two bytes, d and n, now stand before the rows.
-use mathlib.Core.Path.{_≡_}
-use mathlib.Core.Bool.{Bool, true, _&&_}
-use mathlib.Core.Logic.{_↔_}
+use mathlib.Core.Bool.{Bool, _&&_}
 use mathlib.Core.List.{List, _++_}
-use Prim.Native.Nat.{ℕ, _+_, _*_, _≤_}
+use Prim.Native.Nat.{ℕ, _+_, _*_}
 use lib.Dec.{eqb}
-use lib.ListN.{length, getD, take, drop}
+use lib.ListN.{getD, take, drop}
 use Rattle.modular.specs.Dimension.{listed}
 use Rattle.tableau.specs.Tableau.{sized}
-use Rattle.validity.specs.Validity.{Valid, valid}
+use Rattle.validity.specs.Validity.{valid}
 
 -- Byte 0 is d, byte 1 is n, and the rows begin at byte 2.
 abbrev pub dimensionIn : List ℕ → ℕ
@@ -31,15 +29,6 @@ tableauBytes n = 2 * n * (2 * n + 1) + 2
 -- A tableau counts as valid exactly if these two are in range, each byte of the rows is below that d, and the pairings hold for them.
 unfoldable pub selfValid : List ℕ → Bool
 selfValid t = listed (dimensionIn t) && (sized (quditsIn t) && valid (dimensionIn t) (quditsIn t) (rowsIn t))
-
--- the same as facts
-pub record SelfValid (t : List ℕ) : Type 0 where
-  pub dimension : listed (dimensionIn t) ≡ true
-  pub qudits : sized (quditsIn t) ≡ true
-  pub rows : Valid (dimensionIn t) (quditsIn t) (rowsIn t)
-
-abbrev pub SelfValidExactly : Type 0
-SelfValidExactly = (t : List ℕ) → tableauBytes (quditsIn t) ≤ length t → (selfValid t ≡ true) ↔ SelfValid t
 
 -- the two bytes are d and n
 abbrev pub names : ℕ → ℕ → List ℕ → Bool

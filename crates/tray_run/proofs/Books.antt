@@ -11,7 +11,7 @@ use borrow.Author.Tests.{leb-true, not-true, not-false}
 use Rattle.search.specs.declared.Place.the-variants.{At, Nowhere}
 use Rattle.search.proofs.Search.{both}
 use Rattle.saved_tableau.specs.Saved.{rowsIn, tableauBytes, validFor}
-use Rattle.saved_tableau.proofs.Exactly.{valid-rows}
+use Rattle.saved_tableau_laws.proofs.Exactly.{valid-rows}
 use Rattle.book_body.specs.declared.Numbers.{Numbers}
 use Rattle.book_body.specs.declared.Reading.{Reading}
 use Rattle.book_body.specs.declared.Reading.the-variants.{Accepted as Taken}

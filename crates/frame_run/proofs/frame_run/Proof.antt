@@ -84,8 +84,8 @@ choices-requires c κs =
     let g = handed (now (a .book)) (m .before .before .read .ensures) (m .reading .given .1) in
     (g .bodies .room, g .bodies .third)
 
-run-tableau-requires : tie.Need-run-tableau-requires
-run-tableau-requires c κs =
+run-requires : tie.Need-run-requires
+run-requires c κs =
     let p = c .before .before .before .before in
     let v = p .before .before .before .before in
     let o = v .before .before .before in
@@ -116,7 +116,7 @@ returns-4 c =
     run-book (now (a .book)) g
     (buffersOf (now (a .t)) (now (a .results)) (now (a .shifts)) (now (a .frame)))
     (o .buffers-fit .ensures) (v .before .before .if1 .left) (v .is-valid-for .ensures) (p .before .before .before .if2 .left)
-    (rw (p .before .before .operations .ensures, p .before .errors .ensures, p .choices .ensures) at (u .run-tableau .ensures))
+    (rw (p .before .before .operations .ensures, p .before .errors .ensures, p .choices .ensures) at (u .run .ensures))
 
 pub frame-run-spec : {M : Type 1} → statement M
 frame-run-spec =
@@ -145,7 +145,7 @@ frame-run-spec =
     operations-requires
     errors-requires
     choices-requires
-    run-tableau-requires
+    run-requires
     (λ c. c .before .before .before .before .before .before .before .t .given)
     (λ c. c .before .before .before .before .before .results .given)
     (λ c. c .before .before .before .shifts .given)

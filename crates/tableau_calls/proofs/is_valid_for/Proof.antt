@@ -7,7 +7,7 @@ use borrow.Author.Needs.{needs}
 use borrow.Author.Tests.{not-true, not-false}
 use Rattle.tableau.proofs.Sized.{sized-most}
 use Rattle.saved_tableau.specs.Saved.{names, validFor}
-use Rattle.saved_tableau.proofs.Exactly.{rows-decide, is-named}
+use Rattle.saved_tableau_laws.proofs.Exactly.{rows-decide, is-named}
 use Rattle.tableau_calls.proofs.is_valid_for.Statement.{statement}
 use Rattle.tableau_calls.proofs.is_valid_for.Tie as tie
 

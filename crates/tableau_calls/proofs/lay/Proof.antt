@@ -8,8 +8,8 @@ use borrow.Author.Needs.{needs}
 use borrow.Author.Tests.{eq-eqb, ne-eqb}
 use Rattle.modular.proofs.Listed.{dimension}
 use Rattle.saved_tableau.specs.Layer.{layerNumber, layerLeaves}
-use Rattle.saved_tableau.proofs.Rows.{named}
-use Rattle.saved_tableau.proofs.Shape.{Shaped, shaped}
+use Rattle.saved_tableau_laws.proofs.Rows.{named}
+use Rattle.saved_tableau_laws.proofs.Shape.{Shaped, shaped}
 use Rattle.tableau_calls.proofs.lay.Statement.{statement}
 use Rattle.tableau_calls.proofs.lay.Tie as tie
 

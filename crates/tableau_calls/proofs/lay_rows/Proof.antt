@@ -1,7 +1,7 @@
 -- `tableau_calls::lay_rows` meets its contract.
 -- Assumes nothing.
 use borrow.Author.Needs.{needs}
-use Rattle.saved_tableau.proofs.Rows.{rows-part, rows-put}
+use Rattle.saved_tableau_laws.proofs.Rows.{rows-part, rows-put}
 use Rattle.tableau_calls.proofs.lay_rows.Statement.{statement}
 use Rattle.tableau_calls.proofs.lay_rows.Tie as tie
 

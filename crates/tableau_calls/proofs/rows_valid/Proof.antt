@@ -5,7 +5,7 @@ use denote.Ref.{now}
 use borrow.Author.Needs.{needs}
 use lib.ListN.{length-drop}
 use Rattle.modular.proofs.Listed.{dimension}
-use Rattle.saved_tableau.proofs.Rows.{rows-part}
+use Rattle.saved_tableau_laws.proofs.Rows.{rows-part}
 use Rattle.tableau_calls.proofs.rows_valid.Statement.{statement}
 use Rattle.tableau_calls.proofs.rows_valid.Tie as tie
 

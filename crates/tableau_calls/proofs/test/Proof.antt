@@ -10,8 +10,8 @@ use borrow.Author.Tests.{lt-leb, le-leb, not-true, not-false}
 use Rattle.saved_tableau.specs.Saved.{dimensionIn, quditsIn, selfValid}
 use Rattle.saved_tableau.specs.Shape.{shapeNumber}
 use Rattle.saved_tableau.specs.Test.{testNumber}
-use Rattle.saved_tableau.proofs.Exactly.{rows-decide}
-use Rattle.saved_tableau.proofs.Shape.{Shaped, shaped, unshaped}
+use Rattle.saved_tableau_laws.proofs.Exactly.{rows-decide}
+use Rattle.saved_tableau_laws.proofs.Shape.{Shaped, shaped, unshaped}
 use Rattle.tableau_calls.proofs.test.Statement.{statement}
 use Rattle.tableau_calls.proofs.test.Tie as tie
 

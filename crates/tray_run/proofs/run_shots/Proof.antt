@@ -2,7 +2,7 @@
 -- Assumes nothing.
 use denote.Ref.{now}
 use borrow.Author.Needs.{needs}
-use Rattle.saved_tableau.proofs.Rows.{rows-part}
+use Rattle.saved_tableau_laws.proofs.Rows.{rows-part}
 use Rattle.tray_run.proofs.run_shots.Statement.{statement}
 use Rattle.tray_run.proofs.run_shots.Tie as tie
 

@@ -15,9 +15,10 @@ use Rattle.search.proofs.Search.{both, met}
 use Rattle.tableau.specs.Tableau.{sized}
 use Rattle.validity.specs.Validity.{Valid, valid}
 use Rattle.validity.proofs.Exactly.{valid-exactly}
-use Rattle.saved_tableau.specs.Saved.{dimensionIn, quditsIn, rowsIn, tableauBytes, selfValid, SelfValid, SelfValidExactly, names, validFor}
-use Rattle.saved_tableau.specs.Test.{testNumber, TestExactly}
-use Rattle.saved_tableau.proofs.Shape.{shaped}
+use Rattle.saved_tableau.specs.Saved.{dimensionIn, quditsIn, rowsIn, tableauBytes, selfValid, names, validFor}
+use Rattle.saved_tableau.specs.Test.{testNumber}
+use Rattle.saved_tableau_laws.specs.Exactly.{SelfValid, SelfValidExactly, TestExactly}
+use Rattle.saved_tableau_laws.proofs.Shape.{shaped}
 
 true-and : (a b : Bool) → a ≡ true → a && b ≡ b
 true-and a b e = rw e
