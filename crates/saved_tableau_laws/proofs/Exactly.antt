@@ -70,7 +70,7 @@ module _ (d n : ℕ) (rows : List ℕ) (h : listed d ≡ true) (k : sized n ≡ 
   has-room : tableauBytes n ≤ length (d ∷ n ∷ rows)
   has-room = omega (arith, v .room)
 
-  pub saved-valid : selfValid (d ∷ n ∷ rows) ≡ true
+  saved-valid : selfValid (d ∷ n ∷ rows) ≡ true
   saved-valid = test (d ∷ n ∷ rows) has-room (record { dimension = h; qudits = k; rows = v })
 
   pub saved-passes : testNumber (d ∷ n ∷ rows) ≡ 0

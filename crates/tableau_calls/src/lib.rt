@@ -1,7 +1,7 @@
 // The calls about a tableau that names itself: the layer and the tableau test; and what a run asks of one.
 ghost use mathlib.Core.Path.{_≡_};
 ghost use mathlib.Core.Bool.{true};
-ghost use Prim.Native.Nat.{_≤_, _<_};
+ghost use Prim.Native.Nat.{_≤_};
 ghost use lib.ListN.{length};
 ghost use Rattle.modular.specs.Dimension.{listed};
 ghost use Rattle.tableau.specs.Tableau.{sized};
