@@ -14,7 +14,7 @@ use Rattle.tableau.specs.Tableau.{sized}
 use Rattle.search.specs.declared.Place.the-variants.{Nowhere}
 use Rattle.book_body.specs.Body.{lengthFits, ReaderAnswer, accepted, readBodies}
 use Rattle.search.proofs.Search.{met, some-place}
-use Rattle.book_body.proofs.Sound.{NoRefusal, nowhere}
+use Rattle.book_body.proofs.Sound.{NoRefusal, no-refusal, nowhere}
 use Rattle.book.specs.Book.{headerFits, dimensionOf, quditsOf, operationsEntry, errorsEntry, choicesEntry, offsetOf, lengthOf, endOf, partOf, entryFits, badContents, readBook, ofKind, bodyOf}
 
 pub record Passed (s : List ℕ) (t : ReaderAnswer) : Type 0 where
@@ -99,3 +99,10 @@ pub by-kind : {d n operations errors choices : ℕ} (s : List ℕ) (kind : ℕ) 
     → bodyOf s kind ≡ ofKind s kind
 unfolding bodyOf
 by-kind s kind e = rw e
+
+-- an accepted book's operations are whole entries, and not too many
+pub whole-operations : {d n operations errors choices : ℕ} (s : List ℕ) → readBook s ≡ accepted d n operations errors choices
+    → lengthFits (length (bodyOf s 1)) 4 4096 ≡ true
+whole-operations {d} {n} {operations} {errors} {choices} s e =
+    let lies = laid s (all-passed s (no-refusal d n operations errors choices) e .contents) in
+    rw (by-kind s 1 e, part-length s operationsEntry (omega (arith, lies .second .offset, lies .third .offset, lies .ends))) (lies .first .whole)

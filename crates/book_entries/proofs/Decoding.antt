@@ -16,7 +16,7 @@ use Rattle.book_entries.specs.declared.Decoded.the-variants.{Good}
 use Rattle.book_entries.specs.Entry.{timesIn, timesByte, bytesOf, goodIf, ifAllowed, decoded, operationAt, DecodedExactly}
 
 -- How often a gate is applied has one spelling, and 1 is none.
-spelt-once : (k : ℕ) → 0 < k → (timesIn (timesByte k) ≡ k) × (not (eqb (timesByte k) 1) ≡ true)
+pub spelt-once : (k : ℕ) → 0 < k → (timesIn (timesByte k) ≡ k) × (not (eqb (timesByte k) 1) ≡ true)
 spelt-once zero l = absurd (omega arith)
 spelt-once (suc zero) l = (refl, refl)
 spelt-once (suc (suc k)) l =

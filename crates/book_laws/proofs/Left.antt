@@ -22,6 +22,15 @@ use Rattle.direct_run.specs.DirectBook.{directEnded, directByAnswer, directBook
 use Rattle.frame_run.specs.FrameBook.{Buffers, frameBuffersFit, frameEnded, frameByAnswer, frameBook}
 use Rattle.book_laws.specs.Lent.{Lent}
 
+-- the direct run, from any tableau that it takes
+pub direct-ended : {d n operations errors choices : ℕ} (s t results : List ℕ) → readBook s ≡ accepted d n operations errors choices
+    → tableauBytes n ≤ length t → 2 * measurementsIn s d n ≤ length results → validFor d n t ≡ true
+    → directBook s t results
+    ≡ directEnded (measurementsIn s d n) t (directRun d n (opsIn s d n) (errorsIn s) (choicesIn s) (stateOf (rowsIn t) results))
+unfolding directBook directByAnswer
+direct-ended {d} {n} s t results e room enough valid =
+    rw (e, le-leb (tableauBytes n) (length t) room, le-leb (2 * measurementsIn s d n) (length results) enough, valid)
+
 module _ {d n measurements : ℕ} {t results : List ℕ} {lent : Buffers} (given : Lent d n measurements t results lent) where
   -- the start tableau
   start-for : validFor d n (lent .tableau) ≡ true
@@ -63,14 +72,7 @@ module _ {d n measurements : ℕ} {t results : List ℕ} {lent : Buffers} (given
       → measurementsIn s d n ≡ measurements
       → directBook s t results
       ≡ directEnded (measurementsIn s d n) t (directRun d n (opsIn s d n) (errorsIn s) (choicesIn s) (stateOf (rowsIn t) results))
-  unfolding directBook directByAnswer
-  direct-left s e m =
-      rw (
-        e,
-        le-leb (tableauBytes n) (length t) (given .copy-room),
-        le-leb (2 * measurementsIn s d n) (length results) (rw m (given .direct-results)),
-        copy-for,
-      )
+  direct-left s e m = direct-ended s t results e (given .copy-room) (rw m (given .direct-results)) copy-for
 
   pub frame-left : {operations errors choices : ℕ} (s : List ℕ) → readBook s ≡ accepted d n operations errors choices
       → measurementsIn s d n ≡ measurements

@@ -10,22 +10,26 @@ use lib.Dec.{leb}
 use lib.ListN.{length}
 use borrow.Author.Tests.{ne-eqb}
 use Rattle.modular.specs.Dimension.{among}
+use Rattle.search.specs.declared.Place.{Place}
+use Rattle.search.specs.declared.Place.the-variants.{At, Nowhere}
 use Rattle.search.proofs.Search.{unless-cases}
 use Rattle.saved_tableau.specs.Saved.{dimensionIn, quditsIn, selfValid, validFor}
 use Rattle.saved_tableau.specs.Layer.{layerNumber, layerLeaves}
 use Rattle.saved_tableau.specs.Test.{testNumber}
 use Rattle.saved_tableau_laws.proofs.Shape.{shape-cases}
-use Rattle.book_body.specs.Body.{ReaderAnswer, refused, accepted}
+use Rattle.book_body.specs.Body.{ReaderAnswer, refused, accepted, refuseAt}
 use Rattle.book.specs.Book.{readBook}
 use Rattle.book.proofs.Answers.{read-cases}
-use Rattle.book.specs.Decoded.{measurementsIn}
-use Rattle.written_book.specs.Writer.{writeBook}
+use Rattle.book.specs.Decoded.{opsIn, measurementsIn}
+use Rattle.written_book.specs.Writer.{WriteLeft, overwritten, writeByAnswer, writeBook}
 use Rattle.written_book.proofs.Writer.{write-cases}
 use Rattle.direct_run.specs.DirectBook.{DirectLeft, directBuffersFit, directByAnswer, directBook}
 use Rattle.frame_run.specs.FrameBook.{Buffers, FrameLeft, frameBuffersFit, frameByAnswer, frameBook}
 use Rattle.shots.specs.Shots.{trayBook}
 use Rattle.shots.proofs.Refusals.{tray-cases}
-use Rattle.book_laws.specs.Refusals.{runNumbers, trayNumbers, writerNumbers, NumbersListed, WriterNamesBody, LayerUnchanged, WriterUnchanged, DirectUnchanged, FrameUnchanged, TrayUnchanged}
+use Rattle.mirror_book.specs.Mirrored.{firstMeasurement}
+use Rattle.mirror_book.specs.MirrorBook.{mirrorOf, mirrorByAnswer, mirrorBook}
+use Rattle.book_laws.specs.Refusals.{runNumbers, trayNumbers, writerNumbers, mirrorNumbers, NumbersListed, WriterNamesBody, LayerUnchanged, WriterUnchanged, DirectUnchanged, FrameUnchanged, TrayUnchanged, MirrorUnchanged}
 
 layer-listed : (d n : ℕ) (t : List ℕ) → among (layerNumber d n t) (0 ∷ 2 ∷ 3 ∷ 8 ∷ []) ≡ true
 unfolding layerNumber
@@ -71,9 +75,40 @@ tray-listed s tray t out =
     tray-cases s tray t out (λ left. among (left .number) trayNumbers ≡ true)
     refl refl refl (λ k. refl) (λ k. refl) (λ k. refl) (λ k. refl) refl refl refl (λ d n o h. refl)
 
+-- What holds of the refusals 12 and 8 and of the book that is written holds of what the mirror of an accepted book leaves.
+accepted-mirrored : (s out : List ℕ) (P : WriteLeft → Type 0) (d n operations errors choices : ℕ)
+    → ((k : ℕ) → P (record { number = 12; place = k; out = out }))
+    → P (record { number = 8; place = 0; out = out })
+    → P (record { number = 0; place = length (mirrorOf d n s); out = overwritten (mirrorOf d n s) out })
+    → P (mirrorByAnswer s out (accepted d n operations errors choices))
+unfolding mirrorByAnswer writeByAnswer
+accepted-mirrored s out P d n operations errors choices twelve eight written = go (firstMeasurement (opsIn s d n))
+  where
+    go : (p : Place) → P (writeByAnswer (mirrorOf d n s) out (refuseAt 12 p (accepted d n operations errors choices)))
+    go (At k) = twelve k
+    go Nowhere = unless-cases P (leb (length (mirrorOf d n s)) (length out)) (λ _. eight) (λ _. written)
+
+mirror-listed : (s out : List ℕ) → among (mirrorBook s out .number) mirrorNumbers ≡ true
+unfolding mirrorBook mirrorByAnswer
+mirror-listed s out =
+    read-cases (λ x. P (mirrorByAnswer s out x)) refl refl refl (λ k. refl) (λ k. refl) (λ k. refl) (λ k. refl)
+    (λ d n o e c. accepted-mirrored s out P d n o e c (λ k. refl) refl refl)
+    s
+  where
+    P : WriteLeft → Type 0
+    P left = among (left .number) mirrorNumbers ≡ true
+
 pub numbers-listed : NumbersListed
 numbers-listed =
-    record { layer = layer-listed; test = test-listed; writer = writer-listed; direct = direct-listed; frame = frame-listed; tray = tray-listed }
+    record {
+      layer = layer-listed;
+      test = test-listed;
+      writer = writer-listed;
+      direct = direct-listed;
+      frame = frame-listed;
+      tray = tray-listed;
+      mirror = mirror-listed;
+    }
 
 pub layer-unchanged : LayerUnchanged
 unfolding layerLeaves
@@ -136,3 +171,15 @@ tray-unchanged s tray t out =
     (λ h. (refl, refl))
     (λ h. (refl, refl))
     (λ d n o e h. absurd (h refl))
+
+pub mirror-unchanged : MirrorUnchanged
+unfolding mirrorBook mirrorByAnswer
+mirror-unchanged s out = go (readBook s)
+  where
+    P : WriteLeft → Type 0
+    P left = left .number ≢ 0 → left .out ≡ out
+
+    go : (x : ReaderAnswer) → P (mirrorByAnswer s out x)
+    go (refused number place) = λ h. refl
+    go (accepted d n operations errors choices) =
+        accepted-mirrored s out P d n operations errors choices (λ k h. refl) (λ h. refl) (λ h. absurd (h refl))

@@ -18,7 +18,7 @@ use Rattle.book_laws.specs.Clean.{WithoutErrors}
 use Rattle.book_laws.proofs.Left.{frame-left}
 use Rattle.book_laws.proofs.Demand3.{demand3}
 
-empty : {A : Type 0} (v : List A) → length v ≡ 0 → v ≡ []
+pub empty : {A : Type 0} (v : List A) → length v ≡ 0 → v ≡ []
 empty [] e = refl
 empty (x ∷ v) e = absurd (omega arith)
 

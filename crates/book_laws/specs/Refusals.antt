@@ -11,6 +11,7 @@ use Rattle.written_book.specs.Writer.{writeBook}
 use Rattle.direct_run.specs.DirectBook.{directBook}
 use Rattle.frame_run.specs.FrameBook.{Buffers, frameBook}
 use Rattle.shots.specs.Shots.{trayBook}
+use Rattle.mirror_book.specs.MirrorBook.{mirrorBook}
 
 -- Either run: 1 to 7, then 8, then 9; 0 is success.
 abbrev pub runNumbers : List ℕ
@@ -24,6 +25,10 @@ trayNumbers = 0 ∷ 1 ∷ 2 ∷ 3 ∷ 4 ∷ 5 ∷ 6 ∷ 7 ∷ 8 ∷ 9 ∷ 11 ∷
 abbrev pub writerNumbers : List ℕ
 writerNumbers = 0 ∷ 2 ∷ 3 ∷ 4 ∷ 5 ∷ 6 ∷ 7 ∷ 8 ∷ []
 
+-- The mirror: 1 to 7, then 12, then 8.
+abbrev pub mirrorNumbers : List ℕ
+mirrorNumbers = 0 ∷ 1 ∷ 2 ∷ 3 ∷ 4 ∷ 5 ∷ 6 ∷ 7 ∷ 8 ∷ 12 ∷ []
+
 -- No call returns a number that is not in its list.
 pub record NumbersListed : Type 0 where
   pub layer : (d n : ℕ) (t : List ℕ) → among (layerNumber d n t) (0 ∷ 2 ∷ 3 ∷ 8 ∷ []) ≡ true
@@ -32,6 +37,7 @@ pub record NumbersListed : Type 0 where
   pub direct : (s t results : List ℕ) → among (directBook s t results .number) runNumbers ≡ true
   pub frame : (s : List ℕ) (lent : Buffers) → among (frameBook s lent .number) runNumbers ≡ true
   pub tray : (s tray t out : List ℕ) → among (trayBook s tray t out .number) trayNumbers ≡ true
+  pub mirror : (s out : List ℕ) → among (mirrorBook s out .number) mirrorNumbers ≡ true
 
 -- The writer's 4 names one of the three bodies: the end of a written book is never wrong.
 abbrev pub WriterNamesBody : Type 0
@@ -58,3 +64,6 @@ FrameUnchanged = (s : List ℕ) (lent : Buffers) → frameBook s lent .number �
 abbrev pub TrayUnchanged : Type 0
 TrayUnchanged = (s tray t out : List ℕ) → trayBook s tray t out .number ≢ 0
     → (trayBook s tray t out .out ≡ out) × (trayBook s tray t out .shifted ≡ 0)
+
+abbrev pub MirrorUnchanged : Type 0
+MirrorUnchanged = (s out : List ℕ) → mirrorBook s out .number ≢ 0 → mirrorBook s out .out ≡ out

@@ -1,4 +1,5 @@
-// What the host software calls: layer, tableau test, writer, the two runs and the run of a tray, on numbers and byte slices.
+// What the host software calls: layer, tableau test, writer, the two runs, the run of a tray and the mirror, on numbers and byte
+// slices.
 ghost use mathlib.Core.Path.{_≡_};
 ghost use Rattle.saved_tableau.specs.Layer.{layerNumber, layerLeaves};
 ghost use Rattle.saved_tableau.specs.Test.{testNumber};
@@ -6,6 +7,7 @@ ghost use Rattle.written_book.specs.Writer.{writeBook};
 ghost use Rattle.direct_run.specs.DirectBook.{directLeft, directBook};
 ghost use Rattle.frame_run.specs.FrameBook.{buffersOf, frameLeft, frameBook};
 ghost use Rattle.shots.specs.Shots.{trayBook};
+ghost use Rattle.mirror_book.specs.MirrorBook.{mirrorBook};
 use answer::Answer;
 use frame_run::FrameAnswer;
 use tray_run::TrayAnswer;
@@ -74,4 +76,13 @@ pub extern "C" fn cagvost_tray(book: &[u8], tray: &[u8], t: &[u8], out: &mut [u8
         ≡ trayBook (now (book .entry)) (now (tray .entry)) (now (t .entry)) (now (out .entry)) ⌝ }
 {
     tray_run::tray_run(book, tray, t, out)
+}
+
+// Writes the mirror of a book, or refuses by 1 to 7, 12 or 8.
+#[no_mangle]
+pub extern "C" fn cagvost_mirror(book: &[u8], out: &mut [u8]) -> Answer
+    ensures { λ r. ⌜ record { number = r .number; place = r .place; out = now (out .exit) }
+        ≡ mirrorBook (now (book .entry)) (now (out .entry)) ⌝ }
+{
+    mirror_writer::mirror(book, out)
 }

@@ -28,10 +28,10 @@ pub record Makes (d n : ℕ) (first next both : Operation) : Type 0 where
   pub powers : (u : ℕ → ℕ) (s : ℕ) → Cong d (mapped d n next (mapped d n first u) s) (mapped d n both u s)
   pub phase : (u : ℕ → ℕ) → Cong d (gained d n first u + gained d n next (mapped d n first u)) (gained d n both u)
 
-put-values : (n q : ℕ) {a a' b b' : ℕ} (u : ℕ → ℕ) (s : ℕ) → a ≡ a' → b ≡ b' → put n q a b u s ≡ put n q a' b' u s
+pub put-values : (n q : ℕ) {a a' b b' : ℕ} (u : ℕ → ℕ) (s : ℕ) → a ≡ a' → b ≡ b' → put n q a b u s ≡ put n q a' b' u s
 put-values n q u s x y = rw (x, y)
 
-two-values : (n c t : ℕ) {a a' b b' x x' y y' : ℕ} (u : ℕ → ℕ) (s : ℕ) → a ≡ a' → b ≡ b' → x ≡ x' → y ≡ y'
+pub two-values : (n c t : ℕ) {a a' b b' x x' y y' : ℕ} (u : ℕ → ℕ) (s : ℕ) → a ≡ a' → b ≡ b' → x ≡ x' → y ≡ y'
     → put-two n c t a b x y u s ≡ put-two n c t a' b' x' y' u s
 two-values n c t u s i j k l = rw (i, j, k, l)
 
@@ -98,10 +98,10 @@ module _ (d n : ℕ) where
       }
 
 -- −1 squared is 1.
-squared : (e b : ℕ) → Cong (suc e) (e * (e * b)) b
+pub squared : (e b : ℕ) → Cong (suc e) (e * (e * b)) b
 squared e b = record { p = b; q = e * b; eq = omega arith }
 
-cancelled : (e x : ℕ) → Cong (suc e) (e * x + e * (e * x)) 0
+pub cancelled : (e x : ℕ) → Cong (suc e) (e * x + e * (e * x)) 0
 cancelled e x = record { p = 0; q = e * x; eq = omega arith }
 
 module _ (e n q : ℕ) (l : q < n) where

@@ -15,7 +15,8 @@ use Rattle.operation.specs.Operation.{allowed}
 use Rattle.operation.proofs.Operands.{distinct-facts}
 use Rattle.circuit.specs.Circuit.{opAt, gate, kind}
 use Rattle.book_entries.specs.declared.Decoded.{Decoded}
-use Rattle.book_entries.specs.Entry.{goodIf, coded}
+use Rattle.book_entries.specs.declared.Decoded.the-variants.{Good}
+use Rattle.book_entries.specs.Entry.{goodIf, coded, operationAt}
 use Rattle.book_entries.specs.Fits.{fits}
 use Rattle.book_entries.proofs.Fitting.{by-fits, coded-other}
 use Rattle.book.specs.Decoded.{operationIn, operationsOf}
@@ -50,6 +51,13 @@ module _ (d n : ℕ) (ops : List ℕ) (k : ℕ) (inside : k < length ops / 4) (h
 
   pub is-coded : opAt (operationsOf d n ops) k ≡ coded code (byte 1) (byte 2) (byte 3)
   is-coded = op-at d n ops k inside ∙ ap operationIn (by-fits d n (byte 1) (byte 2) (byte 3) code ∙ ap (λ (t : Bool). goodIf t (coded code (byte 1) (byte 2) (byte 3))) fit)
+
+  -- so its bytes are read as that operation
+  pub is-read : operationAt d n ops k ≡ Good (opAt (operationsOf d n ops) k)
+  is-read =
+      by-fits d n (byte 1) (byte 2) (byte 3) code
+      ∙ ap (λ (t : Bool). goodIf t (coded code (byte 1) (byte 2) (byte 3))) fit
+      ∙ ap Good (sym is-coded)
 
   pub code-6 : code ≡ 6 → opAt (operationsOf d n ops) k ≡ Measure (byte 1)
   unfolding coded

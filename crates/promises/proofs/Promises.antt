@@ -22,8 +22,11 @@ use Rattle.shots.specs.Clean.{CleanServes}
 use Rattle.book_laws.specs.Agreement.{SecondAccepted, Demand3}
 use Rattle.book_laws.specs.Clean.{CleanExactly, WithoutErrors}
 use Rattle.book_laws.specs.LeavesValid.{LayerLeavesValid, DirectLeavesValid, FrameLeavesValid}
-use Rattle.book_laws.specs.Refusals.{NumbersListed, WriterNamesBody, LayerUnchanged, WriterUnchanged, DirectUnchanged, FrameUnchanged, TrayUnchanged}
+use Rattle.book_laws.specs.Refusals.{NumbersListed, WriterNamesBody, LayerUnchanged, WriterUnchanged, DirectUnchanged, FrameUnchanged, TrayUnchanged, MirrorUnchanged}
 use Rattle.book_laws.specs.Tray.{ShotsAreFrameRuns, TrayKeepsRest, TrayCounts, OwnErrorsUnused}
+use Rattle.mirror_laws.specs.Undone.{UndoingAllowed, RowUndone, RowsUndone}
+use Rattle.mirror_laws.specs.Lists.{ListsAccepted, ListsReturn, ListsCarry}
+use Rattle.mirror_laws.specs.Books.{MirrorAccepted, FillsMirror, MirrorReturns, MirrorCarries}
 use Rattle.book_laws.proofs.Refusals as refusals
 use Rattle.book_laws.proofs.LeavesValid as left
 use Rattle.book_laws.proofs.Second as second
@@ -59,6 +62,9 @@ use Rattle.run_laws.proofs.Buffers as buffers
 use Rattle.run_laws.proofs.Fold as fold
 use Rattle.run_laws.proofs.Verdict as rows-verdict
 use Rattle.shots.proofs.Clean as serves
+use Rattle.mirror_laws.proofs.Undone as undone
+use Rattle.mirror_laws.proofs.Lists as mirrored-lists
+use Rattle.mirror_laws.proofs.Books as mirrored-books
 
 -- Demand 1: every entry point does its work or refuses with a listed number, and a refusal leaves what the list says. (That each exported
 -- function does so for every input is its contract, in crates/cagvost/src/lib.rt.)
@@ -91,6 +97,10 @@ writer-unchanged = refusals.writer-unchanged
 pub tray-unchanged : TrayUnchanged
 tray-unchanged = refusals.tray-unchanged
 
+-- A refusal of the mirror leaves the buffer unchanged.
+pub mirror-unchanged : MirrorUnchanged
+mirror-unchanged = refusals.mirror-unchanged
+
 -- Four bytes are an operation exactly if they are its bytes and its operands are in range.
 pub decoded-exactly : DecodedExactly
 decoded-exactly = entries.decoded-exactly
@@ -118,6 +128,15 @@ rewritten = writer.rewritten
 -- A successful call fills the buffer with that book alone, and keeps every byte past it.
 pub fills-only-book : FillsOnlyBook
 fills-only-book = writer.fills-only-book
+
+-- The reader accepts the mirror of a book without measurements, with the same d, n and number of operations and nothing else, and reads the
+-- operations reversed, each turned into its inverse.
+pub mirror-accepted : MirrorAccepted
+mirror-accepted = mirrored-books.mirror-accepted
+
+-- A successful call fills the buffer with the mirror book alone, and keeps every byte past it.
+pub fills-mirror : FillsMirror
+fills-mirror = mirrored-books.fills-mirror
 
 -- No two trays of bytes have the same shots.
 pub only-tray : OnlyTray
@@ -216,6 +235,18 @@ rows-repeat = repeated.rows-repeat
 -- The same for a frame.
 pub frame-repeats : FrameRepeats
 frame-repeats = repeated.frame-repeats
+
+-- What undoes an allowed operation is allowed.
+pub undoing-allowed : UndoingAllowed
+undoing-allowed = undone.undoing-allowed
+
+-- It undoes it on every row.
+pub row-undone : RowUndone
+row-undone = undone.row-undone
+
+-- The same for all rows of a tableau.
+pub rows-undone : RowsUndone
+rows-undone = undone.rows-undone
 
 -- Error times row is the row after the error, times error.
 pub error-conjugates : ErrorConjugates
@@ -368,3 +399,23 @@ tray-counts = trays.tray-counts
 -- The book's own errors make no difference.
 pub own-errors-unused : OwnErrorsUnused
 own-errors-unused = trays.own-errors-unused
+
+-- Over lists: the mirror of accepted gates is accepted.
+pub lists-accepted : ListsAccepted
+lists-accepted = mirrored-lists.lists-accepted
+
+-- Over lists: gates without errors, then their mirror, bring every row back.
+pub lists-return : ListsReturn
+lists-return = mirrored-lists.lists-return
+
+-- Over lists: with errors the rows differ from the start by one frame, the errors carried through both.
+pub lists-carry : ListsCarry
+lists-carry = mirrored-lists.lists-carry
+
+-- For whole books: a book without errors and measurements, then its mirror, bring back each byte of any valid tableau.
+pub mirror-returns : MirrorReturns
+mirror-returns = mirrored-books.mirror-returns
+
+-- For whole books: with errors the tableau differs from the start by one frame, the errors carried through both books.
+pub mirror-carries : MirrorCarries
+mirror-carries = mirrored-books.mirror-carries

@@ -1,23 +1,25 @@
 -- The frame run is the clean run, without errors, with the carried frame added to rows and results. So it keeps validity as well,
 -- and its verdict is clean exactly if both runs end with the same stabilizer set.
 -- Assumes nothing.
-use mathlib.Core.Path.{_≡_, refl, sym}
+use mathlib.Core.Path.{_≡_, refl, sym, ap, _∙_}
 use mathlib.Core.List.{List, []}
 use Prim.Native.Nat.{ℕ, zero, suc, _+_, _*_, _%_, _≤_, _<_}
 use native.Mathlib.Nat.{le-refl}
 use native.Mathlib.Omega.{arith}
 use lib.ListN.{length, getD}
+use Rattle.modular.specs.Dimension.{Dimension}
 use Rattle.row.specs.Row.{xOf}
 use Rattle.operation.specs.declared.Operation.{Operation}
 use Rattle.operation.specs.declared.WeylError.{WeylError}
-use Rattle.circuit.specs.Circuit.{opAt, Kind, gate, measures, kind, tallyKind, measured}
+use Rattle.circuit.specs.Circuit.{opAt, Kind, gate, measures, kind, tallyKind, measured, Accepted}
+use Rattle.validity.specs.Validity.{Valid}
 use Rattle.measurement.specs.declared.Look.{Look}
 use Rattle.measurement.specs.declared.Look.the-variants.{Free, Certain}
 use Rattle.measurement.specs.Look.{look}
 use Rattle.runs.specs.Run.{stepsFrom, withResult}
-use Rattle.runs.specs.Direct.{State, errorsOnRows, directLook, directKind, directErrors, directStep, directRun}
-use Rattle.runs.specs.Frame.{FrameState, shiftRows, verdictOf, frameLook, frameKind, frameErrors, frameStep, frameSteps, frameLeaves, frameRunFrom}
-use Rattle.runs.specs.Raised.{carryBy, frameBefore, carriedFrame, finalFrame, resultShifts}
+use Rattle.runs.specs.Direct.{State, stateOf, errorsOnRows, directLook, directKind, directErrors, directStep, directRun}
+use Rattle.runs.specs.Frame.{Frame, FrameState, shiftRows, verdictOf, frameLook, frameKind, frameErrors, frameStep, frameSteps, frameLeaves, frameRunFrom}
+use Rattle.runs.specs.Raised.{carryBy, frameBefore, carriedFrame, finalFrame, resultShifts, raised}
 use Rattle.runs.specs.Carry.{withShifts}
 use Rattle.runs.proofs.Results.{measured-before, steps-results}
 use Rattle.runs.proofs.Shifts.{shift-of}
@@ -26,6 +28,7 @@ use Rattle.run_laws.specs.Carrying.{FrameKeepsValid, FrameIsClean, Clean
 use Rattle.run_laws.proofs.Looks.{shift-keeps-valid}
 use Rattle.run_laws.proofs.Books.{without-errors}
 use Rattle.run_laws.proofs.Sound.{run-keeps-valid}
+use Rattle.run_laws.proofs.Fold.{runs-same}
 use Rattle.run_laws.proofs.Verdict.{clean-rows}
 
 -- the same rows, the frame G, and, where there is room for them, the results of m measurements with their shifts
@@ -119,6 +122,15 @@ unfolding frameRunFrom frameLeaves
 frame-is-clean d n ops errors choices F st shifts frame room =
     let a = plus-all d n ops errors choices F st in
     rw (a .rows, a .frame, a .results room)
+
+-- So the rows of a direct run from shifted rows are those of the clean run, shifted by the frame carried to the end.
+pub direct-shifted : (d n : ℕ) → Dimension d → (ops : List Operation) (errors : List WeylError) (choices F : List ℕ) → Accepted d n ops errors choices → Frame d n F
+    → (t results : List ℕ) → Valid d n t
+    → directRun d n ops errors (raised d n ops errors F choices) (stateOf (shiftRows d n F t) results) .rows
+    ≡ shiftRows d n (finalFrame d n ops errors F) (directRun d n ops [] choices (stateOf t results) .rows)
+direct-shifted d n dim ops errors choices F ac f t results ok =
+    ap (λ (st : State). st .rows) (runs-same d n dim ops errors choices F ac f t results [] [] ok)
+    ∙ rows-shifted d n ops errors choices F (stateOf t results) [] []
 
 pub frame-keeps-valid : FrameKeepsValid
 frame-keeps-valid d n dim ops errors choices F ac st ok shifts frame =

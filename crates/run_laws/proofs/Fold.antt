@@ -18,15 +18,19 @@ use Rattle.measurement.specs.Look.{look}
 use Rattle.validity_laws.proofs.Keeping.{gate-keeps-valid}
 use Rattle.measurement_laws.proofs.Free.{collapse-keeps-valid}
 use Rattle.runs.specs.Run.{stepsFrom}
-use Rattle.runs.specs.Direct.{State, directLook, directKind, directErrors, directStep, directRun}
-use Rattle.runs.specs.Frame.{Frame, FrameState, shiftRows, frameLook, frameKind, frameErrors, frameStep, frameSteps, frameLeaves, frameRunFrom}
+use Rattle.runs.specs.Direct.{State, stateOf, directLook, directKind, directErrors, directStep, directRun}
+use Rattle.runs.specs.Frame.{Frame, FrameState, FrameEnd, shiftRows, frameLook, frameKind, frameErrors, frameStep, frameSteps, frameLeaves, frameRunFrom}
 use Rattle.runs.specs.Raised.{carryBy, frameBefore, carriedFrame, raised}
 use Rattle.runs.proofs.Frames.{gate-frame, errors-on-frame}
 use Rattle.runs.proofs.Shifts.{before, shifts-at, raised-at}
-use Rattle.run_laws.specs.Carrying.{Agree, RunsAgreeFrom}
+use Rattle.run_laws.specs.Carrying.{RunsAgreeFrom}
 use Rattle.run_laws.proofs.Rows.{shifted-gate, shifted-errors, shifted-collapse}
 use Rattle.run_laws.proofs.Looks.{Both, free, certain, both}
 use Rattle.run_laws.proofs.Books.{qudit-in, choice-in, has-choice}
+
+-- rows and results of a frame run that has ended
+abbrev ended : FrameEnd → State
+ended end = stateOf (end .rows) (end .results)
 
 -- both runs, with the frame F
 pub data ShiftedState (d n : ℕ) : List ℕ → State → FrameState → Type 0 where
@@ -84,12 +88,12 @@ module _ (d n : ℕ) (dim : Dimension d) (ops : List Operation) (errors : List W
       (steps-alike from F t results f ok m (omega arith) (λ i k. up i (omega arith)))
 
   -- the errors after all operations
-  end-alike : (m : ℕ) (shifts frame : List ℕ) {F : List ℕ} {A : State} {B : FrameState} → ShiftedState d n F A B
-      → Agree n m (directErrors d n ops errors second (length ops) A) (frameLeaves d n ops errors choices shifts frame (frameErrors d n ops errors choices (length ops) B))
+  end-same : (shifts frame : List ℕ) {F : List ℕ} {A : State} {B : FrameState} → ShiftedState d n F A B
+      → directErrors d n ops errors second (length ops) A
+      ≡ ended (frameLeaves d n ops errors choices shifts frame (frameErrors d n ops errors choices (length ops) B))
   unfolding frameLeaves directErrors frameErrors
-  end-alike m shifts frame {F} (shifted-state t results f ok) =
+  end-same shifts frame {F} (shifted-state t results f ok) =
       rw (shifted-errors d n dim errors (ac .errors-in-order .each) (length ops) F t f (valid-tableau d n t ok) (length errors) (le-refl (length errors)))
-      (record { tableau = λ i l. refl; results = λ i l. refl })
 
 -- The raised choices are so.
 raises : {d n : ℕ} {ops : List Operation} {errors : List WeylError} {choices : List ℕ} → (dim : Dimension d) (ac : Accepted d n ops errors choices) (F : List ℕ) (i : ℕ)
@@ -101,9 +105,18 @@ raises {d} {n} {ops} {errors} {choices} dim ac F i l q e =
     raised-at d n ops errors F choices j (has-choice ac (0 + i) q (omega arith) e)
     ∙ ap (λ (x : ℕ). (getD choices j 0 + x) % d) (shifts-at d n ops errors 0 F (length ops) i j q l e (omega arith))
 
-pub runs-agree-from : RunsAgreeFrom
+-- Rows and results are the very same, bytes past the needed ones included.
+pub runs-same : (d n : ℕ) → Dimension d → (ops : List Operation) (errors : List WeylError) (choices F : List ℕ) → Accepted d n ops errors choices → Frame d n F
+    → (t results shifts frame : List ℕ) → Valid d n t
+    → directRun d n ops errors (raised d n ops errors F choices) (stateOf (shiftRows d n F t) results)
+    ≡ ended (frameRunFrom d n ops errors choices F (stateOf t results) shifts frame)
 unfolding directRun frameRunFrom frameSteps
-runs-agree-from d n dim ops errors choices F ac powers len t results shifts frame ok =
+runs-same d n dim ops errors choices F ac f t results shifts frame ok =
     let second = raised d n ops errors F choices in
-    end-alike d n dim ops errors choices second ac _ shifts frame
-    (steps-alike d n dim ops errors choices second ac 0 F t results (record { powers = powers; len = len }) ok (length ops) (omega arith) (raises dim ac F))
+    end-same d n dim ops errors choices second ac shifts frame
+    (steps-alike d n dim ops errors choices second ac 0 F t results f ok (length ops) (omega arith) (raises dim ac F))
+
+pub runs-agree-from : RunsAgreeFrom
+runs-agree-from d n dim ops errors choices F ac powers len t results shifts frame ok =
+    rw (runs-same d n dim ops errors choices F ac (record { powers = powers; len = len }) t results shifts frame ok)
+    (record { tableau = λ i l. refl; results = λ i l. refl })

@@ -12,7 +12,7 @@ use Rattle.written_book.specs.Writer.{overwritten}
 use Rattle.written_book.proofs.Read.{book-length}
 
 -- one part more, behind what is laid
-next : (xs ys out : List ℕ) (k : ℕ) → length xs ≡ k → put k (length ys) ys (xs ++ drop k out) ≡ (xs ++ ys) ++ drop (k + length ys) out
+pub next : (xs ys out : List ℕ) (k : ℕ) → length xs ≡ k → put k (length ys) ys (xs ++ drop k out) ≡ (xs ++ ys) ++ drop (k + length ys) out
 unfolding put
 next xs ys out k e =
     rw (take-at xs (drop k out) k e, drop-at xs (drop k out) k e, drop-drop (length ys) k out) (sym (append-assoc xs ys (drop (k + length ys) out)))

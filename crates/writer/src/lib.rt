@@ -26,7 +26,7 @@ fn high(x: usize) -> u8
 }
 
 // Header and table of contents, for bodies of a, b and c bytes.
-fn head_of(d: u8, n: u8, a: usize, b: usize, c: usize) -> [u8; 22]
+pub fn head_of(d: u8, n: u8, a: usize, b: usize, c: usize) -> [u8; 22]
     requires { ⌜ (a ≤ 16384)
         × (b ≤ 10240)
         × (c ≤ 4096) ⌝ }
@@ -61,7 +61,7 @@ fn head_of(d: u8, n: u8, a: usize, b: usize, c: usize) -> [u8; 22]
 }
 
 // The bytes become those of `out` from byte `at` on.
-fn lay(out: &mut [u8], at: usize, bytes: &[u8])
+pub fn lay(out: &mut [u8], at: usize, bytes: &[u8])
     requires { ⌜ at + length (now bytes) ≤ length (now out) ⌝ }
     ensures { λ _. ⌜ now (out .exit) ≡ put at (length (now (bytes .entry))) (now (bytes .entry)) (now (out .entry)) ⌝ }
 {

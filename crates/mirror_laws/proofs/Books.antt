@@ -1,0 +1,220 @@
+-- The mirror of a whole book: the reader accepts it, and both runs go by the lists.
+-- Assumes nothing.
+use mathlib.Core.Path.{_≡_, refl, sym, ap, subst, _∙_}
+use mathlib.Core.Bool.{true}
+use mathlib.Core.List.{List, [], _∷_, _++_}
+use Prim.Native.Nat.{ℕ, _+_, _*_, _%_, _/_, _<_, _≤_}
+use native.Mathlib.Nat.{le-refl}
+use native.Mathlib.Omega.{arith}
+use lib.Dec.{eqb, leb}
+use lib.ListN.{length, take, drop, take-append-drop}
+use lib.Seq.{take-at, drop-at}
+use borrow.Author.Tests.{eqb-true}
+use Rattle.modular.specs.Dimension.{Dimension, listed}
+use Rattle.modular.proofs.Listed.{dimension}
+use Rattle.search.specs.declared.Place.{Place}
+use Rattle.search.specs.declared.Place.the-variants.{At, Nowhere}
+use Rattle.search.specs.Search.{firstNot}
+use Rattle.search.proofs.Search.{both, unless-cases}
+use Rattle.row.specs.Row.{tab}
+use Rattle.operation.specs.declared.Operation.{Operation}
+use Rattle.operation.specs.declared.WeylError.{WeylError}
+use Rattle.operation.specs.Operation.{allowed}
+use Rattle.validity.specs.Validity.{Valid}
+use Rattle.saved_tableau.specs.Saved.{dimensionIn, quditsIn, rowsIn, withRows, tableauBytes, selfValid, validFor}
+use Rattle.saved_tableau_laws.specs.Exactly.{SelfValid}
+use Rattle.saved_tableau_laws.proofs.Rows.{opened, same-bytes, rows-back}
+use Rattle.saved_tableau_laws.proofs.Exactly.{self-valid-exactly, valid-for, valid-rows}
+use Rattle.circuit.specs.Circuit.{opAt, measurementCount, Accepted}
+use Rattle.book_body.specs.Body.{lengthFits, badError, badChoice, accepted, refuseAt, readBodies}
+use Rattle.book.specs.Book.{readBook, bodyOf}
+use Rattle.book.specs.Decoded.{Means, operationsOf, errorsOf, opsIn, errorsIn, choicesIn, measurementsIn}
+use Rattle.book.proofs.Contents.{whole-operations}
+use Rattle.book.proofs.Lists.{op-count}
+use Rattle.book.proofs.Meaning.{accepted-means}
+use Rattle.written_book.specs.Written.{badLengths, readParts, HasBodies}
+use Rattle.written_book.specs.Writer.{WriteLeft, overwritten, writeByAnswer}
+use Rattle.written_book.proofs.Read.{book-length, reads-written, bodies-back}
+use Rattle.runs.specs.Direct.{stateOf, directRun}
+use Rattle.run_laws.proofs.Books.{without-errors}
+use Rattle.run_laws.proofs.Sound.{run-keeps-valid}
+use Rattle.direct_run.specs.DirectBook.{directEnded, directBook}
+use Rattle.book_laws.proofs.Left.{direct-ended}
+use Rattle.book_laws.proofs.WithoutErrors.{empty}
+use Rattle.mirror_book.specs.Mirrored.{mirrored, firstMeasurement}
+use Rattle.mirror_book.specs.MirrorBook.{bytesOfAll, mirrorOf, mirrorByAnswer, mirrorBook}
+use Rattle.mirror_book.proofs.Mirrored.{mirrored-length}
+use Rattle.mirror_book.proofs.Body.{body-length, entry-count, read-again, none-bad, none-counted}
+use Rattle.mirror_laws.specs.Lists.{rowsThereAndBack}
+use Rattle.mirror_laws.specs.Books.{IsMirror, MirrorAccepted, MirrorFilled, FillsMirror, Start, Ends, MirrorReturns, carriedThrough, MirrorCarries}
+use Rattle.mirror_laws.proofs.Lists.{gates-of, none-measured, mirrored-gates, mirrored-allowed, lists-return, lists-carry}
+
+no-errors : errorsOf [] ≡ []
+unfolding errorsOf tab
+no-errors = refl
+
+module _ (s : List ℕ) {d n operations errors choices : ℕ} (e : readBook s ≡ accepted d n operations errors choices)
+    (none : firstMeasurement (opsIn s d n) ≡ Nowhere) where
+  means : Means s d n operations errors choices
+  means = accepted-means s d n operations errors choices e
+
+  dim : Dimension d
+  dim = dimension d (means .dimension-listed)
+
+  abbrev ops : List Operation
+  ops = opsIn s d n
+
+  abbrev mirror : List ℕ
+  mirror = mirrorOf d n s
+
+  abbrev body : List ℕ
+  body = bytesOfAll (mirrored d ops)
+
+  good : (k : ℕ) → k < length (mirrored d ops) → allowed d n (opAt (mirrored d ops) k) ≡ true
+  good = mirrored-allowed d ops n dim (means .lists .operations)
+
+  count : length (mirrored d ops) ≡ operations
+  count = mirrored-length d ops ∙ means .operation-count
+
+  -- the mirror's body has the length of the book's, which is whole entries and not too many
+  whole : lengthFits (length body) 4 4096 ≡ true
+  whole =
+      let fits = whole-operations s e in
+      let b = both (eqb (length (bodyOf s 1) % 4) 0) (leb (length (bodyOf s 1)) (4 * 4096)) fits in
+      let rest = eqb-true (length (bodyOf s 1) % 4) 0 (b .0) in
+      let q : length body ≡ length (bodyOf s 1) = omega (arith, body-length (mirrored d ops), mirrored-length d ops, op-count d n (bodyOf s 1), rest) in
+      rw q fits
+
+  accepts : readBook mirror ≡ accepted d n operations 0 0
+  unfolding readParts readBodies badError badChoice firstNot
+  accepts =
+      let o : length body / 4 ≡ operations = entry-count d n (mirrored d ops) good ∙ count in
+      let m : operations ≤ length (mirrored d ops) = omega (arith, count) in
+      rw (
+        reads-written d n body [] [],
+        means .dimension-listed,
+        means .qudits-sized,
+        whole,
+        none-bad d n (mirrored d ops) good,
+        o,
+        none-counted (mirrored d ops) (mirrored-gates d ops (gates-of ops none)) operations m,
+      )
+
+  bodies : HasBodies mirror body [] []
+  bodies = bodies-back d n body [] [] operations 0 0 accepts
+
+  reads : opsIn mirror d n ≡ mirrored d ops
+  reads = rw (bodies .operations-back) (read-again d n (mirrored d ops) good)
+
+  reads-no-errors : errorsIn mirror ≡ []
+  reads-no-errors = rw (bodies .errors-back) no-errors
+
+  is-mirror : IsMirror d n operations s mirror
+  is-mirror =
+      record {
+        accepts = accepts;
+        reads = reads;
+        size = book-length d n body [] [] ∙ omega (arith, body-length (mirrored d ops), count);
+      }
+
+  measures-none : measurementsIn s d n ≡ 0
+  measures-none = none-measured ops (gates-of ops none) (length ops) (le-refl (length ops))
+
+  mirror-measures-none : measurementsIn mirror d n ≡ 0
+  mirror-measures-none =
+      rw reads (none-measured (mirrored d ops) (mirrored-gates d ops (gates-of ops none)) (length (mirrored d ops)) (le-refl (length (mirrored d ops))))
+
+  module _ (t results results' : List ℕ) (start : Start d n t) where
+    for : validFor d n t ≡ true
+    for = valid-for t (start .valid) (start .dimension) (start .qudits)
+
+    ok : Valid d n (rowsIn t)
+    ok = valid-rows t (start .room) for
+
+    two : 2 ≤ length t
+    two = omega (arith, start .room)
+
+    abbrev rows : List ℕ
+    rows = directRun d n ops (errorsIn s) (choicesIn s) (stateOf (rowsIn t) results) .rows
+
+    abbrev after : List ℕ
+    after = withRows t rows
+
+    rows-valid : Valid d n rows
+    rows-valid = run-keeps-valid d n dim ops (errorsIn s) (choicesIn s) (means .lists) (stateOf (rowsIn t) results) ok
+
+    -- the tableau between the runs is one that the second run takes
+    after-room : tableauBytes n ≤ length after
+    after-room = rw (opened t rows two) (omega (arith, rows-valid .room))
+
+    after-for : validFor d n after ≡ true
+    after-for =
+        let saved : SelfValid (d ∷ n ∷ rows) = record { dimension = means .dimension-listed; qudits = means .qudits-sized; rows = rows-valid } in
+        rw (opened t rows two, start .dimension, start .qudits)
+        (valid-for (d ∷ n ∷ rows) (self-valid-exactly (d ∷ n ∷ rows) (omega (arith, rows-valid .room)) .1 saved) refl refl)
+
+    there : directBook s t results ≡ directEnded (measurementsIn s d n) t (directRun d n ops (errorsIn s) (choicesIn s) (stateOf (rowsIn t) results))
+    there = direct-ended s t results e (start .room) (omega (arith, measures-none)) for
+
+    back : directBook mirror after results'
+        ≡ directEnded (measurementCount (mirrored d ops)) after (directRun d n (mirrored d ops) [] [] (stateOf rows results'))
+    back =
+        rw (reads, reads-no-errors, bodies .choices-back, rows-back t rows two) at
+        (direct-ended mirror after results' accepts after-room (omega (arith, mirror-measures-none)) after-for)
+
+    -- both runs end, and the rows are what the lists say of them, behind the same two bytes
+    ends : (left : List ℕ) → directRun d n (mirrored d ops) [] [] (stateOf rows results') .rows ≡ left
+        → Ends (directBook s t results) (directBook mirror (directBook s t results .tableau) results') (withRows t left)
+    ends left h =
+        rw (there, back)
+        (record { there-ends = refl; back-ends = refl; leaves = rw (same-bytes t rows two, h) })
+
+pub mirror-accepted : MirrorAccepted
+mirror-accepted s d n operations errors choices e none = is-mirror s e none
+
+pub fills-mirror : FillsMirror
+unfolding mirrorBook mirrorByAnswer writeByAnswer
+fills-mirror s out d n operations errors choices e =
+    rw e (go (firstMeasurement (opsIn s d n)) refl)
+  where
+    P : WriteLeft → Type 0
+    P left = left .number ≡ 0 → MirrorFilled d n operations s out left
+
+    go : (p : Place) → firstMeasurement (opsIn s d n) ≡ p
+        → P (writeByAnswer (mirrorOf d n s) out (refuseAt 12 p (accepted d n operations errors choices)))
+    go (At k) none = λ h. absurd (omega arith)
+    go Nowhere none =
+        unless-cases P (leb (length (mirrorOf d n s)) (length out)) (λ _ h. absurd (omega arith))
+        (λ _ h.
+        record {
+          gates = none;
+          count = is-mirror s e none .size;
+          book = take-at (mirrorOf d n s) (drop (length (mirrorOf d n s)) out) (length (mirrorOf d n s)) refl;
+          kept = drop-at (mirrorOf d n s) (drop (length (mirrorOf d n s)) out) (length (mirrorOf d n s)) refl;
+        })
+
+-- the rows of a book that has no errors
+rows-back-clean : (d n : ℕ) → Dimension d → (ops : List Operation) (errors : List WeylError) (choices : List ℕ) → errors ≡ [] → Accepted d n ops errors choices
+    → firstMeasurement ops ≡ Nowhere
+    → (t results results' : List ℕ) → Valid d n t
+    → rowsThereAndBack d n ops errors choices t results results' ≡ t
+rows-back-clean d n dim ops errors choices e ac none t results results' ok =
+    subst (λ (es : List WeylError). rowsThereAndBack d n ops es choices t results results' ≡ t) (sym e)
+    (lists-return d n dim ops choices (without-errors ac) none t results results' ok)
+
+pub mirror-returns : MirrorReturns
+mirror-returns s d n operations choices e none t results results' start =
+    let m = accepted-means s d n operations 0 choices e in
+    let clean = empty (errorsIn s) (m .error-count) in
+    rw (take-append-drop 2 t) at
+    (ends s e none t results results' start (rowsIn t)
+    (rows-back-clean d n (dimension d (m .dimension-listed)) (opsIn s d n) (errorsIn s) (choicesIn s) clean (m .lists) none (rowsIn t) results results'
+    (ok s e none t results results' start)))
+
+pub mirror-carries : MirrorCarries
+mirror-carries s d n operations errors choices e none t results results' start =
+    let m = accepted-means s d n operations errors choices e in
+    rw (reads s e none, reads-no-errors s e none)
+    (ends s e none t results results' start _
+    (lists-carry d n (dimension d (m .dimension-listed)) (opsIn s d n) (errorsIn s) (choicesIn s) (m .lists) none (rowsIn t) results results'
+    (ok s e none t results results' start)))

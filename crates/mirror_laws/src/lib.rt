@@ -1,0 +1,1 @@
+// What a mirror undoes, and what it carries on; no code.

@@ -1,0 +1,4 @@
+-- What the proofs of functions use.
+pub mod Entry
+pub mod Written
+pub mod Books

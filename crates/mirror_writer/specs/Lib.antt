@@ -1,0 +1,2 @@
+pub mod LastByte
+pub mod Ready
