@@ -135,6 +135,20 @@
 //! of bytes of its errors, all in two bytes with the low one first, and then the errors of all shots
 //! in order, as a book has them. `examples/tray.rs` in this package is a whole program.
 //!
+//! # Mirror circuits
+//!
+//! A circuit and then its reverse bring every state back, so that what does not come back shows the
+//! errors on the way. [`mirror()`] makes the *mirror* of a book: its operations in reversed order,
+//! each turned into its inverse, without errors and choices. Fourier applied k times becomes Fourier
+//! applied 4 − k times, phase gate, SUM and CZ applied k times become the same applied d − k times,
+//! a swap stays, and a multiplier gets the inverse factor. A measurement has no inverse: a book that
+//! has one is refused, by [`Refusal::Measurement`].
+//!
+//! A run of a book without errors and then one of its mirror leave every byte of a valid tableau as
+//! it was. If errors strike in the first run, the phase of each row is shifted in the end by the
+//! pairing of one frame with that row, and nothing else is changed: it is the frame of the book's
+//! [`frame_run`], carried on through the mirror's operations.
+//!
 //! # Buffers
 //!
 //! - The *tableau* has d in byte 0 and n in byte 1. From byte 2 on it has 2n rows of 2n + 1 bytes:
@@ -150,6 +164,8 @@
 //!   for shifted, and then its results; [`shots_len`] is their size, and [`Shots`] reads them.
 //! - The *book* that the writer fills has 22 bytes and then the three bodies; [`book_len`] is its
 //!   size.
+//! - The *mirror* that is made of a book has 22 bytes and then four for each operation;
+//!   [`mirror_len`] is its size.
 //!
 //! A buffer may be longer than needed: bytes past the needed ones are kept.
 //!
@@ -166,11 +182,13 @@ pub mod book;
 mod frame;
 #[allow(unsafe_code)]
 mod library;
+mod mirror;
 mod refusal;
 mod tray;
 mod write;
 
 pub use frame::{FrameRun, Verdict, frame_len, frame_run, shifts_len};
+pub use mirror::{mirror, mirror_len};
 pub use refusal::Refusal;
 pub use tray::{MAX_SHOTS, Shot, Shots, Tray, TrayCounts, shots_len, tray_run};
 pub use write::{book_len, write_book};

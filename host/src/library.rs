@@ -82,6 +82,7 @@ unsafe extern "C" {
         out: *mut u8,
         out_len: usize,
     ) -> TrayAnswer;
+    fn cagvost_mirror(book: *const u8, book_len: usize, out: *mut u8, out_len: usize) -> Answer;
 }
 
 pub(crate) fn layer(tableau: &mut [u8], d: usize, n: usize) -> Answer {
@@ -171,6 +172,11 @@ pub(crate) fn tray(book: &[u8], tray: &[u8], tableau: &[u8], out: &mut [u8]) -> 
             out.len(),
         )
     }
+}
+
+pub(crate) fn mirror(book: &[u8], out: &mut [u8]) -> Answer {
+    // SAFETY: see the head of this module; the library does not write the book.
+    unsafe { cagvost_mirror(book.as_ptr(), book.len(), out.as_mut_ptr(), out.len()) }
 }
 
 /// The numbers that the safe functions drop: a success's second, a refusal's third.

@@ -68,10 +68,15 @@ pub enum Refusal {
     /// 11: the tray has more than 4,096 shots, the errors of one are not whole entries or are more
     /// than 2,048, or it is not as long as its table of contents says.
     Tray,
+    /// 12, by the mirror alone: the book is good and has a measurement, which no operation undoes.
+    Measurement {
+        /// The first measurement, by its index among all operations.
+        index: usize,
+    },
 }
 
 impl Refusal {
-    /// The listed number: from 1 to 9, or 11.
+    /// The listed number: from 1 to 9, 11 or 12.
     pub fn number(self) -> usize {
         match self {
             Refusal::BookHeader => 1,
@@ -84,6 +89,7 @@ impl Refusal {
             Refusal::ShortBuffer => 8,
             Refusal::InvalidTableau => 9,
             Refusal::Tray => 11,
+            Refusal::Measurement { .. } => 12,
         }
     }
 
@@ -93,7 +99,8 @@ impl Refusal {
             Refusal::Contents { entry } => entry,
             Refusal::Operation { index }
             | Refusal::ErrorEntry { index }
-            | Refusal::Choice { index } => index,
+            | Refusal::Choice { index }
+            | Refusal::Measurement { index } => index,
             Refusal::TrayShot { shot } => shot,
             _ => 0,
         }
@@ -138,6 +145,9 @@ impl Refusal {
             Refusal::Tray => {
                 "not a tray: it has more than 4,096 shots, the errors of a shot are not whole entries or are more than 2,048, or it is not as long as its table of contents says"
             }
+            Refusal::Measurement { .. } => {
+                "this operation is the book's first measurement, and a circuit with a measurement has no mirror"
+            }
         }
     }
 
@@ -158,6 +168,7 @@ impl Refusal {
             (8, 0) => Refusal::ShortBuffer,
             (9, 0) => Refusal::InvalidTableau,
             (11, 0) => Refusal::Tray,
+            (12, index) => Refusal::Measurement { index },
             _ => panic!("the linked library is of another version: it refused {number} at {place}"),
         }
     }
@@ -188,11 +199,12 @@ mod tests {
 
     #[test]
     fn each_listed_number_keeps_its_number_and_place() {
-        for number in (1..=9).chain([11]) {
-            let place = if matches!(number, 4..=7) { 2 } else { 0 };
+        for number in (1..=9).chain([11, 12]) {
+            let place = if matches!(number, 4..=7 | 12) { 2 } else { 0 };
             keeps(Refusal::listed(number, place), number, place);
         }
         keeps(Refusal::TrayShot { shot: 4095 }, 6, 4095);
+        keeps(Refusal::listed(12, 4095), 12, 4095);
     }
 
     fn keeps(refusal: Refusal, number: usize, place: usize) {
@@ -211,6 +223,14 @@ mod tests {
         assert_ne!(book, tray);
         assert!(!book.to_string().contains("tray"));
         assert!(tray.to_string().contains("shot of the tray"));
+    }
+
+    /// A measurement is counted among all operations, and not among the measurements.
+    #[test]
+    fn the_words_for_12_speak_of_an_operation() {
+        let words = Refusal::Measurement { index: 1 }.meaning();
+        assert!(words.starts_with("this operation is"));
+        assert!(words.contains("no mirror"));
     }
 
     /// A good tableau that is fed to another book is refused by 9: the words say so, and where the

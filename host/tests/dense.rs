@@ -1,14 +1,16 @@
 //! Both runs against a state vector: rows fix the state, marks and outcomes are its own, a frame
 //! leads from the state without errors to the one with errors, and the verdict says whether these
-//! are the same.
+//! are the same. A circuit and then its mirror give back the state vector.
 
 mod common;
 
 use cagvost::Verdict;
 use cagvost::book::{Book, DIMENSIONS, Operation, WeylError};
-use common::dense::State;
+use common::dense::{State, levels};
+use common::trays::{draw_circuit, draw_errors};
 use common::{ROWS, Rng, Shape, UNWRITTEN, Verdicts, paper_book, with_times};
 use common::{cz, draw_book, draw_error, every_factor, sum, times, without_errors, zero_tableau};
+use common::{every_gate, operations_of};
 
 /// Rounding in a run of some dozens of gates stays far below, 1/d and a root's step far above.
 const CLOSE: f64 = 1e-9;
@@ -474,6 +476,84 @@ fn every_multiplier_before_and_after_a_measurement() {
         book
     });
 }
+
+// ---- Mirrors
+
+/// The operations of a book and then those of its mirror as one book, with the errors of the first.
+fn there_and_back(book: &Book) -> Book {
+    let mut mirror = vec![UNWRITTEN; cagvost::mirror_len(book.operations().len())];
+    let written = cagvost::mirror(&book.to_bytes(), &mut mirror);
+    assert_eq!(written, Ok(mirror.len()), "{book:?}");
+    let mut joined = book.clone();
+    for operation in operations_of(&mirror) {
+        joined.operation(operation);
+    }
+    joined
+}
+
+/// The gates of a circuit on a state.
+fn apply_gates(book: &Book, mut state: State) -> State {
+    book.operations().iter().for_each(|&gate| state.gate(gate));
+    state
+}
+
+/// Every size with d 3 or 5.
+fn mirrored_sizes() -> impl Iterator<Item = (u8, u8)> {
+    [3, 5]
+        .into_iter()
+        .flat_map(|d| small_sizes(d).map(move |n| (d, n)))
+}
+
+/// The state has the same amplitudes, so that not even its phase is lost.
+#[test]
+fn a_circuit_and_its_mirror_give_back_the_state() {
+    let mut rng = Rng(10);
+    for (d, n) in mirrored_sizes().flat_map(|size| [size; 60]) {
+        let (before, gates) = (draw_circuit(&mut rng, d, n, 30, 0), rng.below(50));
+        let state = apply_gates(&before, State::zero(d.into(), n.into()));
+        let book = draw_circuit(&mut rng, d, n, gates, 0);
+        let back = apply_gates(&there_and_back(&book), state.clone());
+        assert!(back.distance(&state) < CLOSE, "{book:?}");
+    }
+}
+
+/// What is as it was on every level is as it was on every state.
+#[test]
+fn every_gate_and_its_mirror_give_back_every_level() {
+    for (d, n) in [(3, 1), (5, 1), (3, 2), (5, 2)] {
+        for gate in every_gate(d, &Vec::from_iter(0..n)) {
+            let book = there_and_back(Book::new(d, n).operation(gate));
+            for level in levels(d, n) {
+                let back = apply_gates(&book, level.clone());
+                assert!(back.distance(&level) < CLOSE, "d {d} n {n} {gate:?}");
+            }
+        }
+    }
+}
+
+/// The frame of both circuits makes of the first state what the errors leave in the end.
+#[test]
+fn errors_before_the_mirror_come_out_as_one_frame() {
+    let mut rng = Rng(11);
+    let mut seen = Seen::default();
+    for (d, n) in mirrored_sizes().flat_map(|size| [size; 40]) {
+        let (gates, errors) = (rng.below(40), rng.below(8));
+        let mut book = draw_circuit(&mut rng, d, n, gates, 0);
+        for error in draw_errors(&mut rng, &book, errors) {
+            book.error_at(error);
+        }
+        let book = there_and_back(&book);
+        let carried = follow_frame(&book, &mut seen);
+        let frame = [&carried.frame[..], &[0]].concat();
+        let first = State::zero(d.into(), n.into());
+        let last = replay(&book, &[], &mut Seen::default());
+        let overlap = after(&first, &frame).overlap(&last);
+        assert!((overlap - 1.0).abs() < CLOSE, "{book:?}");
+    }
+    seen.verdicts.are_enough(10);
+}
+
+// ---- Cases
 
 /// The specification's cases without a star that a state vector can hold, by both runs: the listing
 /// of the 45-byte book but for its words, and the book without operations and errors.

@@ -6,7 +6,7 @@ mod common;
 
 use cagvost::book::{Book, MAX_CHOICES, MAX_ERRORS, MAX_OPERATIONS, MAX_QUDITS, Operation};
 use common::frames::Buffers;
-use common::{Rng, plain};
+use common::{Rng, UNWRITTEN, plain, zero_tableau};
 use std::collections::BTreeSet;
 use std::ffi::OsString;
 use std::fs;
@@ -186,6 +186,47 @@ fn free_and_certain_over_the_whole_book() {
         let free = quarter.iter().filter(|line| line.contains("free")).count();
         assert!(free > 50 && free < 718, "{free} of 768 are free");
     }
+}
+
+/// A stored circuit with a Z error, and its mirror.
+fn circuit_and_mirror() -> [Vec<u8>; 2] {
+    ["circuit", "mirror"].map(|name| fs::read(stored(name, "book")).expect("a stored book"))
+}
+
+#[test]
+fn the_stored_mirror_is_that_of_the_stored_circuit() {
+    let [circuit, mirror] = circuit_and_mirror();
+    let mut out = vec![UNWRITTEN; mirror.len()];
+    assert_eq!(cagvost::mirror(&circuit, &mut out), Ok(46));
+    assert_eq!(out, mirror);
+    assert_eq!(plain::mirror(&mirror, &mut out), (0, 46));
+    assert_eq!(out[22..], circuit[22..46]);
+}
+
+/// Worked by hand: Z on qudit 1 after SUM comes to the end as Z on qudit 0, by the swap. Back before
+/// SUM it is Z^3 on qudit 0, as SUM was applied three times, and Z on qudit 1; and before Fourier the
+/// first of these is X^3. So the zero tableau comes back, but for the phases of destabilizer 1 and of
+/// stabilizer 0, and qudit 0 is at level 3.
+#[test]
+fn what_the_stored_circuit_and_its_mirror_leave() {
+    let [circuit, mirror] = circuit_and_mirror();
+    let mut tableau = zero_tableau(5, 2);
+    for book in [&circuit, &mirror] {
+        assert_eq!(cagvost::direct_run(book, &mut tableau, &mut []), Ok(0));
+    }
+    #[rustfmt::skip]
+    assert_eq!(tableau, [
+        5, 2,
+        1, 0, 0, 0, 0,
+        0, 1, 0, 0, 1,
+        0, 0, 1, 0, 2,
+        0, 0, 0, 1, 0,
+    ]);
+    let mut carried = Buffers::zero(5, 2, 0);
+    assert_eq!(carried.by_library(&circuit), (0, 0, 1));
+    assert_eq!(carried.frame, [0, 0, 1, 0]);
+    assert_eq!(carried.by_library(&mirror), (0, 0, 0));
+    assert_eq!(carried.tableau, tableau);
 }
 
 #[test]

@@ -1,38 +1,22 @@
 //! Powers of a gate: one entry that applies it several times, as its last byte says.
 //!
-//! `run_both`, `carry_both`, `tray_both` and `write_both` compare every number and byte with the
-//! plain reference, which applies a power gate by gate, and what a refusal must leave with what was
-//! there before.
+//! `run_both`, `carry_both`, `tray_both`, `write_both` and `mirror_both` compare every number and
+//! byte with the plain reference, which applies a power gate by gate, and what a refusal must leave
+//! with what was there before.
 
 mod common;
 
 use cagvost::Tray;
 use cagvost::book::{Book, DIMENSIONS, MAX_QUDITS, Operation, WeylError};
-use common::dense::State;
+use common::dense::levels;
 use common::frames::{Buffers, carry_both};
 use common::plain::{self, Returned};
 use common::trays::{Lent, draw_errors, draw_tray, tray_both};
-use common::{BODIES, ROWS, Rng, Shape, UNWRITTEN, named, run_both, slices, write_both};
+use common::{
+    BODIES, ROWS, Rng, Shape, UNWRITTEN, mirror_both, named, run_both, slices, write_both,
+};
 use common::{cz, draw_book, draw_gate, draw_noisy, draw_tableau, most_times, sum, times_of};
-use common::{with_tail, with_times};
-
-/// Each gate that has powers, applied once, on these qudits: in both orders if it has two.
-fn gates_on(qudits: &[u8]) -> Vec<Operation> {
-    let mut gates = Vec::new();
-    for &q in qudits {
-        gates.push(Operation::Fourier { q, times: 1 });
-        gates.push(Operation::PhaseGate { q, times: 1 });
-        let others = qudits.iter().filter(|&&t| t != q);
-        gates.extend(others.flat_map(|&t| [sum(q, t), cz(q, t)]));
-    }
-    gates
-}
-
-/// Each of these gates with every number of applications, once included.
-fn every_power(d: u8, gates: Vec<Operation>) -> impl Iterator<Item = Operation> {
-    let powers = move |gate| (1..=most_times(d, gate)).map(move |k| with_times(gate, k));
-    gates.into_iter().flat_map(powers)
-}
+use common::{every_power, gates_on, shuffled, with_tail, with_times};
 
 /// Does the work for every power of every gate of every dimension, on each of so many qudits.
 fn for_every_power(seed: u64, qudits: &[u8], work: impl Fn(&mut Rng, u8, u8, Operation)) {
@@ -76,7 +60,8 @@ fn book_with(rng: &mut Rng, d: u8, n: u8, entries: &[(usize, [u8; 4])]) -> Vec<u
 }
 
 /// What both runs, the tray run and the writer say to a book with a good table of contents, which
-/// must be the same: nothing, or the refusal. Only the book can be wrong.
+/// must be the same: nothing, or the refusal. Only the book can be wrong. The mirror says the same,
+/// but that it refuses a good book by 12, for its measurement.
 fn refused(rng: &mut Rng, book: &[u8]) -> Option<Returned> {
     let bodies = plain::read_contents(book).expect("a good table of contents");
     let bodies = bodies.map(<[u8]>::to_vec);
@@ -95,15 +80,18 @@ fn refused(rng: &mut Rng, book: &[u8]) -> Option<Returned> {
     let framed = carry_both(book, &before).0;
     let shots = tray_both(&lent).0;
     let written = write_both(&bodies, d.into(), n.into(), &vec![UNWRITTEN; book.len()]).0;
+    let mirrored = mirror_both(book, &vec![UNWRITTEN; book.len()]).0;
     let returned = [(framed.0, framed.1), (shots.0, shots.1), written];
     if direct.0 == 0 {
         assert!(
             returned.iter().all(|r| r.0 == 0),
             "{book:02x?}: {returned:?}"
         );
+        assert_eq!(mirrored.0, 12, "{book:02x?}");
         return None;
     }
     assert_eq!(returned, [direct; 3], "{book:02x?}");
+    assert_eq!(mirrored, direct, "{book:02x?}");
     Some(direct)
 }
 
@@ -312,14 +300,6 @@ fn every_power_is_undone_by_the_rest() {
 
 // ---- Every power among many qudits
 
-/// The same operations in a drawn order.
-fn shuffled(rng: &mut Rng, mut operations: Vec<Operation>) -> Vec<Operation> {
-    for i in (1..operations.len()).rev() {
-        operations.swap(i, rng.below(i + 1));
-    }
-    operations
-}
-
 /// A book of every power on the first, a middle and the last qudit, in a drawn order and with errors
 /// between them; then these qudits are measured.
 fn draw_every_power(rng: &mut Rng, d: u8, n: u8) -> Book {
@@ -376,19 +356,6 @@ fn every_power_in_a_long_tray() {
 
 /// Rounding in some hundred gates stays far below, a root's step far above.
 const CLOSE: f64 = 1e-9;
-
-/// Every level of the qudits, as states.
-fn levels(d: u8, n: u8) -> impl Iterator<Item = State> {
-    (0..usize::from(d).pow(n.into())).map(move |code| {
-        let mut state = State::zero(d.into(), n.into());
-        for qudit in 0..n {
-            let p = (code / usize::from(d).pow(qudit.into()) % usize::from(d)) as u8;
-            let (place, s) = (0, 0);
-            state.apply_error(WeylError { place, qudit, p, s });
-        }
-        state
-    })
-}
 
 /// On every level, a row and then the power do what the power does and then the row that a run made
 /// of it. This fixes the powers and the phase of that row.

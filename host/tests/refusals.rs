@@ -10,8 +10,8 @@ use cagvost::book::{Operation, WeylError};
 use common::frames::{Buffers, carry_both};
 use common::plain::{Returned, is_valid, read};
 use common::{BODIES, FULL, PAPER_BOOK, ROWS, Rng, Shape, UNWRITTEN};
-use common::{counted, cz, draw_book, draw_tableau, layer_both, named, run_both, sum, test_both};
-use common::{with_byte, with_tail, with_times, zero_tableau};
+use common::{counted, cz, damage, draw_book, draw_tableau, layer_both, named, run_both, sum};
+use common::{test_both, with_byte, with_tail, with_times, zero_tableau};
 
 /// What a run with good buffers says to the book.
 fn answer(book: &[u8]) -> Returned {
@@ -457,21 +457,6 @@ fn every_single_byte_damage_of_the_paper_book() {
 #[test]
 fn every_single_byte_damage_of_a_mixed_book() {
     damage_every_byte(&mixed_book().to_bytes());
-}
-
-/// One small change of a book: a byte replaced, put in or taken out, or the end moved.
-fn damage(rng: &mut Rng, book: &mut Vec<u8>) {
-    let place = rng.below(book.len() + 1);
-    match rng.below(16) {
-        0 => book.insert(place, rng.byte_below(8)),
-        1 => book.truncate(place),
-        2 => drop(book.drain(place..(place + 5).min(book.len()))),
-        // The table of contents and the last choices, more often than their length earns.
-        3 | 4 if book.len() > BODIES => book[rng.below(BODIES)] = rng.byte_below(90),
-        5 | 6 if book.len() > BODIES => *book.last_mut().unwrap() = rng.byte_below(8),
-        _ if place < book.len() => book[place] = rng.byte_below(8),
-        _ => book.push(rng.byte()),
-    }
 }
 
 #[test]

@@ -12,23 +12,24 @@ use borrow.Author.Tests.{ne-eqb}
 use Rattle.modular.specs.Dimension.{among}
 use Rattle.search.specs.declared.Place.{Place}
 use Rattle.search.specs.declared.Place.the-variants.{At, Nowhere}
+use Rattle.search.specs.Search.{unless}
 use Rattle.search.proofs.Search.{unless-cases}
 use Rattle.saved_tableau.specs.Saved.{dimensionIn, quditsIn, selfValid, validFor}
 use Rattle.saved_tableau.specs.Layer.{layerNumber, layerLeaves}
 use Rattle.saved_tableau.specs.Test.{testNumber}
 use Rattle.saved_tableau_laws.proofs.Shape.{shape-cases}
-use Rattle.book_body.specs.Body.{ReaderAnswer, refused, accepted, refuseAt}
+use Rattle.book_body.specs.Body.{ReaderAnswer, refused, accepted}
 use Rattle.book.specs.Book.{readBook}
 use Rattle.book.proofs.Answers.{read-cases}
 use Rattle.book.specs.Decoded.{opsIn, measurementsIn}
-use Rattle.written_book.specs.Writer.{WriteLeft, overwritten, writeByAnswer, writeBook}
+use Rattle.written_book.specs.Writer.{WriteLeft, overwritten, writeBook}
 use Rattle.written_book.proofs.Writer.{write-cases}
 use Rattle.direct_run.specs.DirectBook.{DirectLeft, directBuffersFit, directByAnswer, directBook}
 use Rattle.frame_run.specs.FrameBook.{Buffers, FrameLeft, frameBuffersFit, frameByAnswer, frameBook}
 use Rattle.shots.specs.Shots.{trayBook}
 use Rattle.shots.proofs.Refusals.{tray-cases}
 use Rattle.mirror_book.specs.Mirrored.{firstMeasurement}
-use Rattle.mirror_book.specs.MirrorBook.{mirrorOf, mirrorByAnswer, mirrorBook}
+use Rattle.mirror_book.specs.MirrorBook.{mirrorOf, mirrorBytes, refuse12, mirrorByAnswer, mirrorBook}
 use Rattle.book_laws.specs.Refusals.{runNumbers, trayNumbers, writerNumbers, mirrorNumbers, NumbersListed, WriterNamesBody, LayerUnchanged, WriterUnchanged, DirectUnchanged, FrameUnchanged, TrayUnchanged, MirrorUnchanged}
 
 layer-listed : (d n : ℕ) (t : List ℕ) → among (layerNumber d n t) (0 ∷ 2 ∷ 3 ∷ 8 ∷ []) ≡ true
@@ -79,14 +80,17 @@ tray-listed s tray t out =
 accepted-mirrored : (s out : List ℕ) (P : WriteLeft → Type 0) (d n operations errors choices : ℕ)
     → ((k : ℕ) → P (record { number = 12; place = k; out = out }))
     → P (record { number = 8; place = 0; out = out })
-    → P (record { number = 0; place = length (mirrorOf d n s); out = overwritten (mirrorOf d n s) out })
+    → P (record { number = 0; place = mirrorBytes operations; out = overwritten (mirrorOf d n s) out })
     → P (mirrorByAnswer s out (accepted d n operations errors choices))
-unfolding mirrorByAnswer writeByAnswer
+unfolding mirrorByAnswer
 accepted-mirrored s out P d n operations errors choices twelve eight written = go (firstMeasurement (opsIn s d n))
   where
-    go : (p : Place) → P (writeByAnswer (mirrorOf d n s) out (refuseAt 12 p (accepted d n operations errors choices)))
+    go : (p : Place)
+        → P (refuse12 p out
+        (unless (leb (mirrorBytes operations) (length out)) (record { number = 8; place = 0; out = out })
+        (record { number = 0; place = mirrorBytes operations; out = overwritten (mirrorOf d n s) out })))
     go (At k) = twelve k
-    go Nowhere = unless-cases P (leb (length (mirrorOf d n s)) (length out)) (λ _. eight) (λ _. written)
+    go Nowhere = unless-cases P (leb (mirrorBytes operations) (length out)) (λ _. eight) (λ _. written)
 
 mirror-listed : (s out : List ℕ) → among (mirrorBook s out .number) mirrorNumbers ≡ true
 unfolding mirrorBook mirrorByAnswer

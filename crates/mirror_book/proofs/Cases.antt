@@ -15,7 +15,6 @@ use Rattle.book_body.specs.Body.{badOperation, measurements, goodError, badErro
 use Rattle.book.specs.Book.{headerFits, entryFits, badContents, readBook, bodyOf}
 use Rattle.book.specs.Decoded.{operationsOf}
 use Rattle.written_book.specs.Written.{headOf, bookOf}
-use Rattle.written_book.specs.Writer.{writeByAnswer}
 use Rattle.mirror_book.specs.Undoing.{undoing}
 use Rattle.mirror_book.specs.Mirrored.{mirrored}
 use Rattle.mirror_book.specs.MirrorBook.{bytesOfAll, mirrorByAnswer, mirrorBook}
@@ -81,7 +80,7 @@ Refuses ops errors choices size number place =
 pub mirror-written :
     (mirrorBook (bookOf 5 2 gates errors []) (sevens 44) ≡ record { number = 0; place = 42; out = mirror ++ (7 ∷ 7 ∷ []) })
     × (mirrorBook (bookOf 5 2 gates errors []) (sevens 42) ≡ record { number = 0; place = 42; out = mirror }) × Refuses gates errors [] 41 8 0
-unfolding listed powerOf inverse firstNot tab bytesOf decoded errorAt measurements badOperation goodError badError badChoice readBodies headerFits entryFits badContents readBook bodyOf operationsOf headOf bookOf writeByAnswer mirrored bytesOfAll mirrorByAnswer mirrorBook
+unfolding listed powerOf inverse firstNot tab bytesOf decoded errorAt measurements badOperation goodError badError badChoice readBodies headerFits entryFits badContents readBook bodyOf operationsOf headOf bookOf mirrored bytesOfAll mirrorByAnswer mirrorBook
 mirror-written = (refl, refl, refl)
 
 -- Fourier, then both qudits are measured
@@ -92,5 +91,5 @@ measuring = 0 ∷ 0 ∷ 0 ∷ 0 ∷ 6 ∷ 0 ∷ 0 ∷ 0 ∷ 6 ∷ 1 ∷ 0 ∷ 0 
 pub measurement-refused :
     Refuses measuring errors (0 ∷ 0 ∷ []) 34 12 1 × Refuses measuring errors (0 ∷ 0 ∷ []) 33 12 1 × Refuses measuring (4 ∷ 0 ∷ 0 ∷ 0 ∷ 0 ∷ []) (0 ∷ 0 ∷ []) 34 6 0
     × Refuses measuring errors (0 ∷ []) 34 7 1
-unfolding listed firstNot tab decoded errorAt measurements badOperation goodError badError badChoice readBodies headerFits entryFits badContents readBook bodyOf operationsOf headOf bookOf writeByAnswer mirrorByAnswer mirrorBook
+unfolding listed firstNot tab decoded errorAt measurements badOperation goodError badError badChoice readBodies headerFits entryFits badContents readBook bodyOf operationsOf headOf bookOf mirrorByAnswer mirrorBook
 measurement-refused = (refl, refl, refl, refl)

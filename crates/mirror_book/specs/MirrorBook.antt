@@ -1,13 +1,18 @@
 -- The mirror of a book: what the call returns, and what it leaves in the lent buffer.
 use mathlib.Core.List.{List, [], _∷_, _++_}
-use Prim.Native.Nat.{ℕ}
+use Prim.Native.Nat.{ℕ, _+_, _*_}
+use lib.Dec.{leb}
+use lib.ListN.{length}
+use Rattle.search.specs.declared.Place.{Place}
+use Rattle.search.specs.declared.Place.the-variants.{At, Nowhere}
+use Rattle.search.specs.Search.{unless}
 use Rattle.operation.specs.declared.Operation.{Operation}
 use Rattle.book_entries.specs.Entry.{bytesOf}
-use Rattle.book_body.specs.Body.{ReaderAnswer, refused, accepted, refuseAt}
+use Rattle.book_body.specs.Body.{ReaderAnswer, refused, accepted}
 use Rattle.book.specs.Book.{readBook}
 use Rattle.book.specs.Decoded.{opsIn}
 use Rattle.written_book.specs.Written.{bookOf}
-use Rattle.written_book.specs.Writer.{WriteLeft, writeByAnswer}
+use Rattle.written_book.specs.Writer.{WriteLeft, overwritten}
 use Rattle.mirror_book.specs.Mirrored.{mirrored, firstMeasurement}
 
 -- the body of a list of operations: their bytes, one behind the other
@@ -19,14 +24,23 @@ bytesOfAll (op ∷ ops) = bytesOf op ++ bytesOfAll ops
 abbrev pub mirrorOf : ℕ → ℕ → List ℕ → List ℕ
 mirrorOf d n s = bookOf d n (bytesOfAll (mirrored d (opsIn s d n))) [] []
 
--- 1 to 7 as the reader has them; 12 when the book has a measurement, with the operation index of the first; then 8, and what is
--- written, as the writer has them.
+-- It has 22 bytes and 4 per operation.
+abbrev pub mirrorBytes : ℕ → ℕ
+mirrorBytes operations = 22 + 4 * operations
+
+-- 12 when the book has a measurement, with the operation index of the first
+abbrev pub refuse12 : Place → List ℕ → WriteLeft → WriteLeft
+refuse12 (At index) out rest = record { number = 12; place = index; out = out }
+refuse12 Nowhere out rest = rest
+
+-- 1 to 7 as the reader has them, 12, then 8: the buffer is shorter than the mirror book. Success returns 0 and the number of bytes
+-- written; bytes past them are kept.
 unfoldable pub mirrorByAnswer : (s out : List ℕ) → ReaderAnswer → WriteLeft
 mirrorByAnswer s out (refused number place) = record { number = number; place = place; out = out }
 mirrorByAnswer s out (accepted d n operations errors choices) =
-    writeByAnswer (mirrorOf d n s) out
-    (refuseAt 12 (firstMeasurement (opsIn s d n))
-    (accepted d n operations errors choices))
+    refuse12 (firstMeasurement (opsIn s d n)) out
+    (unless (leb (mirrorBytes operations) (length out)) (record { number = 8; place = 0; out = out })
+    (record { number = 0; place = mirrorBytes operations; out = overwritten (mirrorOf d n s) out }))
 
 unfoldable pub mirrorBook : (s out : List ℕ) → WriteLeft
 mirrorBook s out = mirrorByAnswer s out (readBook s)

@@ -14,7 +14,7 @@ use Rattle.modular.specs.Dimension.{Dimension, listed}
 use Rattle.modular.proofs.Listed.{dimension}
 use Rattle.search.specs.declared.Place.{Place}
 use Rattle.search.specs.declared.Place.the-variants.{At, Nowhere}
-use Rattle.search.specs.Search.{firstNot}
+use Rattle.search.specs.Search.{unless, firstNot}
 use Rattle.search.proofs.Search.{both, unless-cases}
 use Rattle.row.specs.Row.{tab}
 use Rattle.operation.specs.declared.Operation.{Operation}
@@ -26,23 +26,25 @@ use Rattle.saved_tableau_laws.specs.Exactly.{SelfValid}
 use Rattle.saved_tableau_laws.proofs.Rows.{opened, same-bytes, rows-back}
 use Rattle.saved_tableau_laws.proofs.Exactly.{self-valid-exactly, valid-for, valid-rows}
 use Rattle.circuit.specs.Circuit.{opAt, measurementCount, Accepted}
-use Rattle.book_body.specs.Body.{lengthFits, badError, badChoice, accepted, refuseAt, readBodies}
+use Rattle.book_body.specs.Body.{lengthFits, badError, badChoice, accepted, readBodies}
 use Rattle.book.specs.Book.{readBook, bodyOf}
 use Rattle.book.specs.Decoded.{Means, operationsOf, errorsOf, opsIn, errorsIn, choicesIn, measurementsIn}
 use Rattle.book.proofs.Contents.{whole-operations}
 use Rattle.book.proofs.Lists.{op-count}
 use Rattle.book.proofs.Meaning.{accepted-means}
 use Rattle.written_book.specs.Written.{badLengths, readParts, HasBodies}
-use Rattle.written_book.specs.Writer.{WriteLeft, overwritten, writeByAnswer}
+use Rattle.written_book.specs.Writer.{WriteLeft, overwritten}
 use Rattle.written_book.proofs.Read.{book-length, reads-written, bodies-back}
 use Rattle.runs.specs.Direct.{stateOf, directRun}
+use Rattle.runs.specs.Frame.{noFrame, shiftRows}
+use Rattle.runs.specs.Raised.{finalFrame}
 use Rattle.run_laws.proofs.Books.{without-errors}
 use Rattle.run_laws.proofs.Sound.{run-keeps-valid}
 use Rattle.direct_run.specs.DirectBook.{directEnded, directBook}
 use Rattle.book_laws.proofs.Left.{direct-ended}
 use Rattle.book_laws.proofs.WithoutErrors.{empty}
 use Rattle.mirror_book.specs.Mirrored.{mirrored, firstMeasurement}
-use Rattle.mirror_book.specs.MirrorBook.{bytesOfAll, mirrorOf, mirrorByAnswer, mirrorBook}
+use Rattle.mirror_book.specs.MirrorBook.{bytesOfAll, mirrorOf, mirrorBytes, refuse12, mirrorByAnswer, mirrorBook}
 use Rattle.mirror_book.proofs.Mirrored.{mirrored-length}
 use Rattle.mirror_book.proofs.Body.{body-length, entry-count, read-again, none-bad, none-counted}
 use Rattle.mirror_laws.specs.Lists.{rowsThereAndBack}
@@ -173,25 +175,28 @@ pub mirror-accepted : MirrorAccepted
 mirror-accepted s d n operations errors choices e none = is-mirror s e none
 
 pub fills-mirror : FillsMirror
-unfolding mirrorBook mirrorByAnswer writeByAnswer
-fills-mirror s out d n operations errors choices e =
-    rw e (go (firstMeasurement (opsIn s d n)) refl)
+unfolding mirrorBook mirrorByAnswer
+fills-mirror s out d n operations errors choices e = rw e (go (firstMeasurement (opsIn s d n)) refl)
   where
     P : WriteLeft → Type 0
     P left = left .number ≡ 0 → MirrorFilled d n operations s out left
 
-    go : (p : Place) → firstMeasurement (opsIn s d n) ≡ p
-        → P (writeByAnswer (mirrorOf d n s) out (refuseAt 12 p (accepted d n operations errors choices)))
-    go (At k) none = λ h. absurd (omega arith)
-    go Nowhere none =
-        unless-cases P (leb (length (mirrorOf d n s)) (length out)) (λ _ h. absurd (omega arith))
-        (λ _ h.
+    filled : firstMeasurement (opsIn s d n) ≡ Nowhere → P (record { number = 0; place = mirrorBytes operations; out = overwritten (mirrorOf d n s) out })
+    filled none h =
+        let size = is-mirror s e none .size in
         record {
           gates = none;
-          count = is-mirror s e none .size;
-          book = take-at (mirrorOf d n s) (drop (length (mirrorOf d n s)) out) (length (mirrorOf d n s)) refl;
-          kept = drop-at (mirrorOf d n s) (drop (length (mirrorOf d n s)) out) (length (mirrorOf d n s)) refl;
-        })
+          count = refl;
+          book = take-at (mirrorOf d n s) (drop (length (mirrorOf d n s)) out) (mirrorBytes operations) size;
+          kept = rw (← size) (drop-at (mirrorOf d n s) (drop (length (mirrorOf d n s)) out) (length (mirrorOf d n s)) refl);
+        }
+
+    go : (p : Place) → firstMeasurement (opsIn s d n) ≡ p
+        → P (refuse12 p out
+        (unless (leb (mirrorBytes operations) (length out)) (record { number = 8; place = 0; out = out })
+        (record { number = 0; place = mirrorBytes operations; out = overwritten (mirrorOf d n s) out })))
+    go (At k) none = λ h. absurd (omega arith)
+    go Nowhere none = unless-cases P (leb (mirrorBytes operations) (length out)) (λ _ h. absurd (omega arith)) (λ _. filled none)
 
 -- the rows of a book that has no errors
 rows-back-clean : (d n : ℕ) → Dimension d → (ops : List Operation) (errors : List WeylError) (choices : List ℕ) → errors ≡ [] → Accepted d n ops errors choices
@@ -204,7 +209,7 @@ rows-back-clean d n dim ops errors choices e ac none t results results' ok =
 
 pub mirror-returns : MirrorReturns
 mirror-returns s d n operations choices e none t results results' start =
-    let m = accepted-means s d n operations 0 choices e in
+    let m = accepted-means s d n operations _ choices e in
     let clean = empty (errorsIn s) (m .error-count) in
     rw (take-append-drop 2 t) at
     (ends s e none t results results' start (rowsIn t)
@@ -214,7 +219,9 @@ mirror-returns s d n operations choices e none t results results' start =
 pub mirror-carries : MirrorCarries
 mirror-carries s d n operations errors choices e none t results results' start =
     let m = accepted-means s d n operations errors choices e in
-    rw (reads s e none, reads-no-errors s e none)
-    (ends s e none t results results' start _
+    let F = carriedThrough d n s (noFrame n) in
+    let through : carriedThrough d n (mirrorOf d n s) F ≡ finalFrame d n (mirrored d (opsIn s d n)) [] F = rw (reads s e none, reads-no-errors s e none) in
+    ends s e none t results results' start (shiftRows d n (carriedThrough d n (mirrorOf d n s) F) (rowsIn t))
     (lists-carry d n (dimension d (m .dimension-listed)) (opsIn s d n) (errorsIn s) (choicesIn s) (m .lists) none (rowsIn t) results results'
-    (ok s e none t results results' start)))
+    (ok s e none t results results' start)
+    ∙ ap (λ (G : List ℕ). shiftRows d n G (rowsIn t)) (sym through))

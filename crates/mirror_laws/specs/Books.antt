@@ -2,7 +2,7 @@
 use mathlib.Core.Path.{_≡_}
 use mathlib.Core.Bool.{true}
 use mathlib.Core.List.{List}
-use Prim.Native.Nat.{ℕ, _+_, _*_, _≤_}
+use Prim.Native.Nat.{ℕ, _≤_}
 use lib.ListN.{length, take, drop}
 use Rattle.search.specs.declared.Place.the-variants.{Nowhere}
 use Rattle.saved_tableau.specs.Saved.{dimensionIn, quditsIn, rowsIn, withRows, tableauBytes, selfValid}
@@ -15,14 +15,14 @@ use Rattle.runs.specs.Frame.{noFrame, shiftRows}
 use Rattle.runs.specs.Raised.{finalFrame}
 use Rattle.direct_run.specs.DirectBook.{DirectLeft, directBook}
 use Rattle.mirror_book.specs.Mirrored.{mirrored, firstMeasurement}
-use Rattle.mirror_book.specs.MirrorBook.{mirrorOf, mirrorBook}
+use Rattle.mirror_book.specs.MirrorBook.{mirrorOf, mirrorBytes, mirrorBook}
 
 -- The reader accepts the mirror of a book without measurements, with the same d, n and number of operations, no errors and no choices,
 -- and reads the mirrored operations.
 pub record IsMirror (d n operations : ℕ) (s mirror : List ℕ) : Type 0 where
   pub accepts : readBook mirror ≡ accepted d n operations 0 0
   pub reads : opsIn mirror d n ≡ mirrored d (opsIn s d n)
-  pub size : length mirror ≡ 22 + 4 * operations
+  pub size : length mirror ≡ mirrorBytes operations
 
 abbrev pub MirrorAccepted : Type 0
 MirrorAccepted = (s : List ℕ) (d n operations errors choices : ℕ) → readBook s ≡ accepted d n operations errors choices
@@ -33,7 +33,7 @@ MirrorAccepted = (s : List ℕ) (d n operations errors choices : ℕ) → readBo
 -- byte past them changed.
 pub record MirrorFilled (d n operations : ℕ) (s out : List ℕ) (left : WriteLeft) : Type 0 where
   pub gates : firstMeasurement (opsIn s d n) ≡ Nowhere
-  pub count : left .place ≡ 22 + 4 * operations
+  pub count : left .place ≡ mirrorBytes operations
   pub book : take (left .place) (left .out) ≡ mirrorOf d n s
   pub kept : drop (left .place) (left .out) ≡ drop (left .place) out
 

@@ -15,14 +15,14 @@ use Rattle.book_body.specs.Body.{lengthFits}
 use Rattle.book.specs.Book.{operationsEntry, partOf, bodyOf}
 use Rattle.book.specs.Decoded.{operationsOf}
 use Rattle.book.proofs.Contents.{whole-operations}
+use Rattle.book.proofs.Lists.{op-count}
+use Rattle.book.proofs.Meaning.{accepted-means}
 use Rattle.book.proofs.Handed.{Handed}
 use Rattle.written_book.specs.Written.{bookOf}
-use Rattle.written_book.specs.Writer.{overwritten, writeByAnswer}
-use Rattle.written_book.proofs.Read.{book-length}
+use Rattle.written_book.specs.Writer.{overwritten}
 use Rattle.mirror_book.specs.Mirrored.{mirrored, firstMeasurement}
-use Rattle.mirror_book.specs.MirrorBook.{bytesOfAll, mirrorByAnswer, mirrorBook}
+use Rattle.mirror_book.specs.MirrorBook.{bytesOfAll, mirrorBytes, mirrorByAnswer, mirrorBook}
 use Rattle.mirror_writer.specs.Ready.{Entries}
-use Rattle.mirror_writer.proofs.Written.{mirror-size}
 
 module _ (s : List ℕ) {d n choices : ℕ} (g : Handed s d n choices) {ops : List ℕ} (is : ops ≡ partOf s operationsEntry) where
   own : ops ≡ bodyOf s 1
@@ -39,24 +39,28 @@ module _ (s : List ℕ) {d n choices : ℕ} (g : Handed s d n choices) {ops : Li
   pub entries : Entries d n ops
   entries = record { dimension = g .dimension; whole = fits .0; operations = rw is (g .lists .operations) }
 
-  abbrev mirror : List ℕ
-  mirror = bookOf d n (bytesOfAll (mirrored d (operationsOf d n ops))) [] []
-
-  size : length mirror ≡ 22 + length ops
-  size = book-length d n _ [] [] ∙ omega (arith, mirror-size d n ops (fits .0))
+  -- 4 bytes per operation
+  sized : mirrorBytes (g .operations) ≡ 22 + length ops
+  sized =
+      let m = accepted-means s d n (g .operations) (g .errors) choices (g .reads) in
+      omega (arith, m .operation-count, op-count d n (bodyOf s 1), ap length own, fits .0)
 
   module _ (out : List ℕ) where
-    pub measuring-book : (place : ℕ) → At place ≡ firstMeasurement (operationsOf d n ops)
-        → record { number = 12; place = place; out = out } ≡ mirrorBook s out
-    unfolding mirrorBook mirrorByAnswer writeByAnswer
-    measuring-book place e = rw (g .reads, ← own, ← e)
+    pub measuring-book : (index : ℕ) → At index ≡ firstMeasurement (operationsOf d n ops)
+        → record { number = 12; place = index; out = out } ≡ mirrorBook s out
+    unfolding mirrorBook mirrorByAnswer
+    measuring-book index e = rw (g .reads, ← own, ← e)
+
+    below : length out < 22 + length ops → length out < mirrorBytes (g .operations)
+    below l = omega (arith, sized)
 
     pub short-book : Nowhere ≡ firstMeasurement (operationsOf d n ops) → length out < 22 + length ops
         → record { number = 8; place = 0; out = out } ≡ mirrorBook s out
-    unfolding mirrorBook mirrorByAnswer writeByAnswer
-    short-book e l = rw (g .reads, ← own, ← e, size, lt-leb _ _ l)
+    unfolding mirrorBook mirrorByAnswer
+    short-book e l = rw (g .reads, ← own, ← e, lt-leb _ _ (below l))
 
     pub mirrored-book : Nowhere ≡ firstMeasurement (operationsOf d n ops) → 22 + length ops ≤ length out
-        → record { number = 0; place = 22 + length ops; out = overwritten mirror out } ≡ mirrorBook s out
-    unfolding mirrorBook mirrorByAnswer writeByAnswer
-    mirrored-book e l = rw (g .reads, ← own, ← e, size, le-leb _ _ l)
+        → record { number = 0; place = 22 + length ops; out = overwritten (bookOf d n (bytesOfAll (mirrored d (operationsOf d n ops))) [] []) out }
+        ≡ mirrorBook s out
+    unfolding mirrorBook mirrorByAnswer
+    mirrored-book e l = rw (g .reads, ← own, ← e, le-leb (mirrorBytes (g .operations)) (length out) (rw sized l), sized)

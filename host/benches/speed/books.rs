@@ -111,6 +111,16 @@ pub fn of_one_gate(d: u8, n: u8, gate: Operation, count: usize) -> Book {
     book
 }
 
+/// So many gates with drawn powers, without errors.
+pub fn of_gates(d: u8, n: u8, count: usize) -> Book {
+    let mut rng = Rng(u64::from(d));
+    let mut book = Book::new(d, n);
+    for _ in 0..count {
+        book.operation(draw_gate(&mut rng, d, n));
+    }
+    book
+}
+
 /// The largest book of one error, without operations.
 pub fn of_one_error(d: u8, n: u8) -> Book {
     let mut book = Book::new(d, n);

@@ -7,7 +7,8 @@ use cagvost::Refusal;
 use cagvost::book::Book;
 
 /// What a call may write: the buffers of a frame run, of which a direct run leaves the last two, and
-/// room for the book that the writer writes. The tableau test leaves all.
+/// room for the book that the writer writes, or for the shorter one that is its mirror. The tableau
+/// test leaves all.
 #[derive(Clone, PartialEq, Eq)]
 pub struct Lent {
     pub run: Buffers,
@@ -115,6 +116,12 @@ pub const WRITE: Columns<3> = [
         let bodies = slices(&job.bodies);
         widen(plain::write(bodies, job.d, job.n, &mut lent.written))
     },
+];
+
+pub const MIRROR: Columns<3> = [
+    |job, lent| numbers(cagvost::mirror(&job.book, &mut lent.written)),
+    |job, lent| widen(tuned::mirror(&job.book, &mut lent.written)),
+    |job, lent| widen(plain::mirror(&job.book, &mut lent.written)),
 ];
 
 fn numbers(returned: Result<usize, Refusal>) -> Returned {

@@ -1,6 +1,6 @@
 //! Times the package's calls beside the same calls in Rust: `cargo bench` in this package,
-//! `cargo bench -- quick` for few sizes and no trays, or `cargo bench -- trays` for the tray runs
-//! alone.
+//! `cargo bench -- quick` for few sizes and no trays, `cargo bench -- trays` for the tray runs alone,
+//! or `cargo bench -- mirrors` for the mirrors alone.
 //!
 //! The columns are the package, (b) the fastest safe Rust that we could write (`tuned.rs`, and
 //! `lanes.rs` for trays), for runs the same with even phases, which shows what it costs to keep the
@@ -19,7 +19,7 @@ mod tuned;
 
 use books::{Mix, certain_tableau, dense_tableau};
 use cagvost::book::{Book, MAX_OPERATIONS, Operation};
-use calls::{CAGVOST, Columns, DIRECT, FRAME, Job, PLAIN, TEST, TUNED, WRITE};
+use calls::{CAGVOST, Columns, DIRECT, FRAME, Job, MIRROR, PLAIN, TEST, TUNED, WRITE};
 use common::zero_tableau;
 use std::thread;
 use std::time::{Duration, Instant};
@@ -61,17 +61,21 @@ fn main() {
         return;
     }
     let begin = Instant::now();
-    let (quick, trays) = (is_given("quick"), is_given("trays"));
+    let [quick, trays, mirrors] = ["quick", "trays", "mirrors"].map(is_given);
+    let all = !quick && !trays && !mirrors;
     preface();
-    if !trays {
+    if quick || all {
         runs(if quick { &FEW } else { &ALL });
     }
-    if !trays && !quick {
+    if all {
         multipliers();
         full_of_powers();
         writing();
     }
-    if !quick {
+    if mirrors || all {
+        mirroring();
+    }
+    if trays || all {
         trays::trays();
     }
     small_stack();
@@ -253,6 +257,40 @@ fn writing() {
             line(&label, Unit::MicrosPerCall, &times);
         }
     }
+}
+
+fn mirroring() {
+    refused_mirrors();
+    head(
+        "Mirror books, on 64 qudits: of eight gates and no errors, and of full books with 4,096 gates and \
+         2,048 errors.",
+        "ns per call",
+    );
+    for d in DIMENSIONS {
+        mirror_line("eight gates", &books::of_gates(d, QUDITS, 8));
+        for mix in [Mix::Powers, Mix::Multipliers] {
+            mirror_line(mix.name(), &books::full(mix, d, QUDITS));
+        }
+    }
+}
+
+fn mirror_line(name: &str, book: &Book) {
+    // The mirror takes no tableau.
+    let job = Job::new(book, Vec::new());
+    let length = cagvost::mirror_len(book.operations().len());
+    let label = format!("mirror d {:<2} {name:<12} {length} B", job.d);
+    line(&label, Unit::NanosPer(1), &take(&job, &MIRROR, SINGLE));
+}
+
+/// The columns refuse alike a book with measurements, and a buffer that is too short for one without.
+/// Nothing is timed.
+fn refused_mirrors() {
+    let mut short = books::of_gates(31, QUDITS, 8);
+    let job = Job::new(short.measure(0, 1), Vec::new());
+    assert_eq!(compare(&job, &MIRROR).0, (12, 8, 0));
+    let mut job = Job::new(&books::of_gates(31, QUDITS, 8), Vec::new());
+    job.before.written.pop();
+    assert_eq!(compare(&job, &MIRROR).0, (8, 0, 0));
 }
 
 /// Does full runs of the package on a small stack. If it were too small, the process would abort.

@@ -18,9 +18,13 @@
 //!   sign, two at a time, and tested for divisibility without a division.
 //! - Operations and choices are tested without a branch, several at a time. If one is bad, they are
 //!   gone through again to find the first.
+//! - In a long mirror the last byte of each entry is looked up. If there is a multiplier, all inverses
+//!   are made before, side by side.
 
 mod even;
 mod specified;
+
+use std::array;
 
 pub use even::Even;
 pub use specified::Specified;
@@ -748,17 +752,120 @@ fn check_all<'a>(
 
 /// Fills the buffer with the book of good bodies. Its length.
 fn lay(bodies: [&[u8]; 3], d: u8, n: u8, out: &mut [u8]) -> usize {
-    out[..4].copy_from_slice(&[81, d, n, 3]);
+    lay_head(bodies.map(<[u8]>::len), d, n, out);
     let mut offset = 22;
-    for (i, body) in bodies.into_iter().enumerate() {
-        let [low, high] = (offset as u16).to_le_bytes();
-        let [least, most] = (body.len() as u16).to_le_bytes();
-        let entry = [i as u8 + 1, 0, low, high, least, most];
-        out[4 + 6 * i..10 + 6 * i].copy_from_slice(&entry);
+    for body in bodies {
         out[offset..offset + body.len()].copy_from_slice(body);
         offset += body.len();
     }
     offset
+}
+
+/// Fills the first 22 bytes of a book with bodies of these lengths.
+fn lay_head(lengths: [usize; 3], d: u8, n: u8, out: &mut [u8]) {
+    out[..4].copy_from_slice(&[81, d, n, 3]);
+    let mut offset = 22;
+    for (i, length) in lengths.into_iter().enumerate() {
+        let [low, high] = (offset as u16).to_le_bytes();
+        let [least, most] = (length as u16).to_le_bytes();
+        let entry = [i as u8 + 1, 0, low, high, least, most];
+        out[4 + 6 * i..10 + 6 * i].copy_from_slice(&entry);
+        offset += length;
+    }
+}
+
+/// Writes the mirror of a book.
+pub fn mirror(book: &[u8], out: &mut [u8]) -> Returned {
+    let book = match read(book) {
+        Ok(book) => book,
+        Err(returned) => return returned,
+    };
+    // A good book has a choice for each measurement.
+    if !book.choices.is_empty() {
+        let mut entries = book.operations.chunks_exact(4);
+        let first = entries.position(|entry| entry[0] == 6);
+        return (12, first.expect("a measurement"));
+    }
+    let length = 22 + book.operations.len();
+    let Some(out) = out.get_mut(..length) else {
+        return (8, 0);
+    };
+    lay_head([book.operations.len(), 0, 0], book.d, book.n as u8, out);
+    lay_back(&book, &mut out[22..]);
+    (0, length)
+}
+
+/// Fills the buffer with what undoes the operations, the last of them first. For few it takes longer
+/// to make the table than to work out each last byte.
+fn lay_back(book: &Book, out: &mut [u8]) {
+    let entries = book.operations.chunks_exact(4).map(code_first).rev();
+    let entries = out.chunks_exact_mut(4).zip(entries);
+    if book.operations.len() < 4 * 32 {
+        for (back, entry) in entries {
+            let last = undoing(book.d, entry & 255, entry >> 24);
+            back.copy_from_slice(&with_last(entry, last));
+        }
+        return;
+    }
+    let lasts = lasts(book.d, book.operations);
+    for (back, entry) in entries {
+        let [code, k] = [entry & 7, (entry >> 24) & 31].map(|x| x as usize);
+        back.copy_from_slice(&with_last(entry, lasts[code][k]));
+    }
+}
+
+/// The bytes of an operation with another last byte.
+fn with_last(entry: u32, last: u8) -> [u8; 4] {
+    (entry & 0xff_ffff | u32::from(last) << 24).to_le_bytes()
+}
+
+/// The last byte of what undoes an operation with this code and last byte.
+fn undoing(d: u8, code: u32, k: u32) -> u8 {
+    match code {
+        0 => left_of(4, k as u8),
+        1..=3 => left_of(d, k as u8),
+        5 => inverses_of(d, [k as u16])[0],
+        _ => 0,
+    }
+}
+
+/// The applications that are left of so many, as an entry has them: 0 for once.
+fn left_of(order: u8, k: u8) -> u8 {
+    let left = order.wrapping_sub(k.max(1));
+    if left == 1 { 0 } else { left }
+}
+
+/// The last byte of what undoes an operation, by the operation's code and last byte.
+fn lasts(d: u8, operations: &[u8]) -> [[u8; 32]; 8] {
+    let mut lasts = [[0; 32]; 8];
+    lasts[0] = array::from_fn(|k| left_of(4, k as u8));
+    lasts[1..4].fill(array::from_fn(|k| left_of(d, k as u8)));
+    let codes = operations
+        .chunks_exact(4)
+        .map(|entry| code_first(entry) & 255);
+    if codes.fold(false, |any, code| any | (code == 5)) {
+        lasts[5] = inverses_of(d, array::from_fn(|u| u as u16));
+    }
+    lasts
+}
+
+/// Each number to the power d − 2, by squares, all of them side by side.
+fn inverses_of<const N: usize>(d: u8, mut squares: [u16; N]) -> [u8; N] {
+    let d = u16::from(d);
+    // Above 2^16/d by at most 1, which is near enough for products of two numbers below 32.
+    let reciprocal = (1 << 16) / u32::from(d) + 1;
+    let rest = |x: u16| x - ((u32::from(x) * reciprocal) >> 16) as u16 * d;
+    let (mut powers, mut left) = ([1; N], d - 2);
+    while left > 0 {
+        for (power, square) in powers.iter_mut().zip(&mut squares) {
+            if left % 2 == 1 {
+                *power = rest(*power * *square);
+            }
+            *square = rest(*square * *square);
+        }
+        left /= 2;
+    }
+    powers.map(|power| power as u8)
 }
 
 /// The book and the part of the tableau that it needs, not yet tested, or a refusal.

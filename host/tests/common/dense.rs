@@ -230,3 +230,16 @@ impl State {
         self.amplitudes = moved;
     }
 }
+
+/// Every level of the qudits, as states.
+pub fn levels(d: u8, n: u8) -> impl Iterator<Item = State> {
+    (0..usize::from(d).pow(n.into())).map(move |code| {
+        let mut state = State::zero(d.into(), n.into());
+        for qudit in 0..n {
+            let p = (code / usize::from(d).pow(qudit.into()) % usize::from(d)) as u8;
+            let (place, s) = (0, 0);
+            state.apply_error(WeylError { place, qudit, p, s });
+        }
+        state
+    })
+}

@@ -112,6 +112,60 @@ pub fn with_times(mut operation: Operation, k: u8) -> Operation {
     operation
 }
 
+/// Each gate that has powers, applied once, on these qudits: in both orders if it has two.
+pub fn gates_on(qudits: &[u8]) -> Vec<Operation> {
+    let mut gates = Vec::new();
+    for &q in qudits {
+        gates.push(Operation::Fourier { q, times: 1 });
+        gates.push(Operation::PhaseGate { q, times: 1 });
+        let others = qudits.iter().filter(|&&t| t != q);
+        gates.extend(others.flat_map(|&t| [sum(q, t), cz(q, t)]));
+    }
+    gates
+}
+
+/// Each of these gates with every number of applications, once included.
+pub fn every_power(d: u8, gates: Vec<Operation>) -> impl Iterator<Item = Operation> {
+    let powers = move |gate| (1..=most_times(d, gate)).map(move |k| with_times(gate, k));
+    gates.into_iter().flat_map(powers)
+}
+
+/// Every entry on these qudits that is a gate: each power, each swap and each factor.
+pub fn every_gate(d: u8, qudits: &[u8]) -> Vec<Operation> {
+    let mut gates = Vec::from_iter(every_power(d, gates_on(qudits)));
+    for &q in qudits {
+        gates.extend((1..d).map(|u| Operation::Multiplier { q, u }));
+        let others = qudits.iter().filter(|&&t| t != q);
+        gates.extend(others.map(|&t| Operation::Swap { c: q, t }));
+    }
+    gates
+}
+
+// ---- Entries
+
+/// The operations of an accepted book.
+pub fn operations_of(book: &[u8]) -> Vec<Operation> {
+    let [operations, ..] = plain::read_contents(book).expect("an accepted book");
+    operations.chunks(4).map(operation_of).collect()
+}
+
+/// The operation that has these bytes. Once is written as 0, and as 1 it has no operation.
+fn operation_of(entry: &[u8]) -> Operation {
+    let (code, q, t, last) = (entry[0], entry[1], entry[2], entry[3]);
+    let (c, times) = (q, if last == 0 { 1 } else { last });
+    let operation = match code {
+        0 => Operation::Fourier { q, times },
+        1 => Operation::PhaseGate { q, times },
+        2 => Operation::Sum { c, t, times },
+        3 => Operation::Cz { c, t, times },
+        4 => Operation::Swap { c, t },
+        5 => Operation::Multiplier { q, u: last },
+        _ => Operation::Measure { q },
+    };
+    assert_eq!(operation.to_bytes(), entry, "no operation has these bytes");
+    operation
+}
+
 // ---- Drawing
 
 /// splitmix64: small, and the same on every machine.
@@ -283,6 +337,14 @@ pub fn draw_error(rng: &mut Rng, d: u8, n: u8, place: usize) -> WeylError {
     }
 }
 
+/// The same operations in a drawn order.
+pub fn shuffled(rng: &mut Rng, mut operations: Vec<Operation>) -> Vec<Operation> {
+    for i in (1..operations.len()).rev() {
+        operations.swap(i, rng.below(i + 1));
+    }
+    operations
+}
+
 /// The same operations and choices, without errors.
 pub fn without_errors(book: &Book) -> Book {
     let mut clean = Book::new(book.dimension(), book.qudits());
@@ -326,6 +388,21 @@ pub fn zero_tableau(d: u8, n: u8) -> Vec<u8> {
 /// The tableau that has these bytes as rows, behind the two that name them.
 pub fn named(d: u8, n: u8, rows: &[u8]) -> Vec<u8> {
     [&[d, n], rows].concat()
+}
+
+/// One small change of a book: a byte replaced, put in or taken out, or the end moved.
+pub fn damage(rng: &mut Rng, book: &mut Vec<u8>) {
+    let place = rng.below(book.len() + 1);
+    match rng.below(16) {
+        0 => book.insert(place, rng.byte_below(8)),
+        1 => book.truncate(place),
+        2 => drop(book.drain(place..(place + 5).min(book.len()))),
+        // The table of contents and the last choices, more often than their length earns.
+        3 | 4 if book.len() > BODIES => book[rng.below(BODIES)] = rng.byte_below(90),
+        5 | 6 if book.len() > BODIES => *book.last_mut().unwrap() = rng.byte_below(8),
+        _ if place < book.len() => book[place] = rng.byte_below(8),
+        _ => book.push(rng.byte()),
+    }
 }
 
 /// The bytes, and after them others that no call may touch.
@@ -463,8 +540,28 @@ pub fn write_both(
     assert_eq!(answer, expected, "d {d} n {n} of {bodies:02x?}");
     assert!(by_library == by_plain, "bytes of d {d} n {n} {bodies:02x?}");
     assert!(lent == *bodies, "a body was written: {bodies:02x?}");
-    let filled = if answer.0 == 0 { answer.1 } else { 0 };
-    let kept = by_library[filled..] == out[filled..];
-    assert!(kept, "{answer:?} changed bytes from {filled} on");
+    keeps_the_rest(answer, out, &by_library);
     (answer, by_library)
+}
+
+/// Makes the mirror of a book on a copy of the buffer by both, which must agree in each number and
+/// byte. The book may not change, a refusal must leave the buffer, and a success what is past the
+/// mirror.
+pub fn mirror_both(book: &[u8], out: &[u8]) -> (plain::Returned, Vec<u8>) {
+    let lent = book.to_vec();
+    let (mut by_library, mut by_plain) = (out.to_vec(), out.to_vec());
+    let answer = returned(cagvost::mirror(&lent, &mut by_library));
+    let expected = plain::mirror(book, &mut by_plain);
+    assert_eq!(answer, expected, "numbers of the mirror of {book:02x?}");
+    assert!(by_library == by_plain, "bytes of the mirror of {book:02x?}");
+    assert!(lent == book, "the book was written: {book:02x?}");
+    keeps_the_rest(answer, out, &by_library);
+    (answer, by_library)
+}
+
+/// A call that writes a book keeps all bytes past it, and by a refusal all there are.
+fn keeps_the_rest(answer: plain::Returned, before: &[u8], after: &[u8]) {
+    let filled = if answer.0 == 0 { answer.1 } else { 0 };
+    let kept = after[filled..] == before[filled..];
+    assert!(kept, "{answer:?} changed bytes from {filled} on");
 }

@@ -194,6 +194,39 @@ fn applications(last: i64, most: i64) -> Option<i64> {
     }
 }
 
+/// The four bytes that mean the operation.
+fn encode(op: Op) -> [u8; 4] {
+    let (code, first, second, last) = match op {
+        Op::Fourier(q, k) => (0, q, 0, last_byte(k)),
+        Op::Phase(q, k) => (1, q, 0, last_byte(k)),
+        Op::Sum(c, t, k) => (2, c, t, last_byte(k)),
+        Op::Cz(c, t, k) => (3, c, t, last_byte(k)),
+        Op::Swap(c, t) => (4, c, t, 0),
+        Op::Multiplier(q, u) => (5, q, 0, u),
+        Op::Measure(q) => (6, q, 0, 0),
+    };
+    [code, first as u8, second as u8, last as u8]
+}
+
+/// The last byte that means so many applications.
+fn last_byte(applications: i64) -> i64 {
+    if applications == 1 { 0 } else { applications }
+}
+
+/// The operation that undoes a gate: four applications of Fourier do nothing, and d of the others
+/// that have powers. A measurement has none.
+fn undoing(d: i64, op: Op) -> Option<Op> {
+    match op {
+        Op::Fourier(q, k) => Some(Op::Fourier(q, 4 - k)),
+        Op::Phase(q, k) => Some(Op::Phase(q, d - k)),
+        Op::Sum(c, t, k) => Some(Op::Sum(c, t, d - k)),
+        Op::Cz(c, t, k) => Some(Op::Cz(c, t, d - k)),
+        Op::Swap(c, t) => Some(Op::Swap(c, t)),
+        Op::Multiplier(q, u) => Some(Op::Multiplier(q, inverse(d, u))),
+        Op::Measure(_) => None,
+    }
+}
+
 /// The gate on one row, each of its applications by itself; a measurement does nothing here.
 pub fn gate(d: i64, op: Op, row: &mut Row) {
     let times = match op {
@@ -525,6 +558,28 @@ pub fn write(bodies: [&[u8]; 3], d: usize, n: usize, out: &mut [u8]) -> Returned
     (0, book.len())
 }
 
+/// Writes the mirror of a book: what undoes its operations, the last of them first.
+pub fn mirror(book: &[u8], out: &mut [u8]) -> Returned {
+    let book = match read(book) {
+        Ok(book) => book,
+        Err(returned) => return returned,
+    };
+    let mut entries = Vec::new();
+    for (i, &op) in book.operations.iter().enumerate() {
+        match undoing(book.d, op) {
+            Some(op) => entries.push(encode(op)),
+            None => return (12, i),
+        }
+    }
+    entries.reverse();
+    let mirror = book_of([&entries.concat(), &[], &[]], book.d as usize, book.n);
+    if out.len() < mirror.len() {
+        return (8, 0);
+    }
+    out[..mirror.len()].copy_from_slice(&mirror);
+    (0, mirror.len())
+}
+
 /// Lays the zero tableau.
 pub fn layer(tableau: &mut [u8], d: usize, n: usize) -> Returned {
     if let Err(returned) = check_sizes(d, n) {
@@ -711,6 +766,20 @@ fn shift_all(d: i64, carried: &Row, rows: &mut [Row], shifts: &mut [u8]) -> usiz
 fn carry(d: i64, error: Error, frame: &mut Row) {
     frame.a[error.q] = (frame.a[error.q] + error.p) % d;
     frame.b[error.q] = (frame.b[error.q] + error.s) % d;
+}
+
+/// What the errors and the gates of a book make of a frame that comes from elsewhere. The phase of
+/// its row means nothing.
+pub fn carried_on(book: &Book, mut frame: Row) -> Row {
+    for k in 0..=book.operations.len() {
+        for error in book.errors_at(k) {
+            carry(book.d, error, &mut frame);
+        }
+        if let Some(&op) = book.operations.get(k) {
+            gate(book.d, op, &mut frame);
+        }
+    }
+    frame
 }
 
 /// Each choice of the book raised by the X power that the frame of its errors has on the measured
