@@ -51,7 +51,7 @@ unfolding bytesOfAll
 body-more [] op = append-nil (bytesOf op)
 body-more (x ∷ ops) op = ap (λ (v : List ℕ). bytesOf x ++ v) (body-more ops op) ∙ sym (append-assoc (bytesOf x) (bytesOfAll ops) (bytesOf op))
 
-byte-at : (ops : List Operation) (k j : ℕ) → k < length ops → j < 4 → getD (bytesOfAll ops) (4 * k + j) 0 ≡ getD (bytesOf (opAt ops k)) j 0
+pub byte-at : (ops : List Operation) (k j : ℕ) → k < length ops → j < 4 → getD (bytesOfAll ops) (4 * k + j) 0 ≡ getD (bytesOf (opAt ops k)) j 0
 unfolding bytesOfAll
 byte-at [] k j l h = absurd (omega arith)
 byte-at (op ∷ ops) zero j l h =

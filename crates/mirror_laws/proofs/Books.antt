@@ -105,7 +105,7 @@ module _ (s : List ℕ) {d n operations errors choices : ℕ} (e : readBook s �
   bodies : HasBodies mirror body [] []
   bodies = bodies-back d n body [] [] operations 0 0 accepts
 
-  reads : opsIn mirror d n ≡ mirrored d ops
+  pub reads : opsIn mirror d n ≡ mirrored d ops
   reads = rw (bodies .operations-back) (read-again d n (mirrored d ops) good)
 
   reads-no-errors : errorsIn mirror ≡ []

@@ -196,7 +196,7 @@ rest-fits m k x h low high =
 
 module _ {d : ℕ} (dim : Dimension d) where
   -- the inverse of u from 1 to d − 1 is one of them
-  inverse-positive : (u : ℕ) → 0 < u → u < d → 0 < inverse d u
+  pub inverse-positive : (u : ℕ) → 0 < u → u < d → 0 < inverse d u
   inverse-positive u low high = by (inverse d u) refl
     where
       by : (w : ℕ) → inverse d u ≡ w → 0 < w
@@ -206,7 +206,7 @@ module _ {d : ℕ} (dim : Dimension d) where
           absurd (omega (arith, dim .rule u low high))
       by (suc w) e = omega arith
 
-  leaves-one : (u : ℕ) → 0 < u → u < d → Cong d (u * inverse d u) 1
+  pub leaves-one : (u : ℕ) → 0 < u → u < d → Cong d (u * inverse d u) 1
   leaves-one u low high = cong-of-mod d _ 1 (dim .rule u low high ∙ sym (mod-eq-of-lt (omega (arith, dim .low))))
 
 pub undoing-allowed : UndoingAllowed

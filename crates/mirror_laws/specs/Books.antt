@@ -9,8 +9,8 @@ use Rattle.saved_tableau.specs.Saved.{dimensionIn, quditsIn, rowsIn, withRows, 
 use Rattle.book_body.specs.Body.{accepted}
 use Rattle.book.specs.Book.{readBook}
 use Rattle.book.specs.Decoded.{opsIn, errorsIn}
-use Rattle.written_book.specs.Written.{Bytes}
 use Rattle.written_book.specs.Writer.{WriteLeft}
+use Rattle.written_book.specs.Errorless.{errorless}
 use Rattle.runs.specs.Frame.{noFrame, shiftRows}
 use Rattle.runs.specs.Raised.{finalFrame}
 use Rattle.direct_run.specs.DirectBook.{DirectLeft, directBook}
@@ -28,6 +28,12 @@ abbrev pub MirrorAccepted : Type 0
 MirrorAccepted = (s : List ℕ) (d n operations errors choices : ℕ) → readBook s ≡ accepted d n operations errors choices
     → firstMeasurement (opsIn s d n) ≡ Nowhere
     → IsMirror d n operations s (mirrorOf d n s)
+
+-- The mirror of the mirror is the book with its errors taken out.
+abbrev pub MirrorTwice : Type 0
+MirrorTwice = (s : List ℕ) (d n operations errors choices : ℕ) → readBook s ≡ accepted d n operations errors choices
+    → firstMeasurement (opsIn s d n) ≡ Nowhere
+    → mirrorOf d n (mirrorOf d n s) ≡ errorless d n s
 
 -- A call that returns 0 was handed a book without measurements. It returns how many bytes it wrote, they are the mirror book, and no
 -- byte past them changed.

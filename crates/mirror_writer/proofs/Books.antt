@@ -1,16 +1,19 @@
 -- What the call returns and leaves, for an accepted book: refused by 12, refused by 8, mirrored.
 -- Assumes nothing.
-use mathlib.Core.Path.{_≡_, sym, ap, _∙_}
+use mathlib.Core.Path.{_≡_, refl, sym, ap, _∙_}
 use mathlib.Core.Bool.{true}
 use mathlib.Core.List.{List, []}
-use Prim.Native.Nat.{ℕ, _+_, _*_, _%_, _<_, _≤_}
+use Prim.Native.Nat.{ℕ, zero, suc, _+_, _*_, _%_, _<_, _≤_}
 use native.Mathlib.Omega.{arith}
 use lib.Dec.{eqb, leb}
 use lib.ListN.{length}
 use borrow.Author.Tests.{eqb-true, leb-true, lt-leb, le-leb}
 use Rattle.search.specs.declared.Place.{Place}
 use Rattle.search.specs.declared.Place.the-variants.{At, Nowhere}
+use Rattle.search.specs.Search.{firstNot}
 use Rattle.search.proofs.Search.{both}
+use Rattle.operation.specs.declared.Operation.{Operation}
+use Rattle.circuit.specs.Circuit.{opAt, Kind, gate, measures, kind, tallyKind, measured, measurementCount}
 use Rattle.book_body.specs.Body.{lengthFits}
 use Rattle.book.specs.Book.{operationsEntry, partOf, bodyOf}
 use Rattle.book.specs.Decoded.{operationsOf}
@@ -20,9 +23,19 @@ use Rattle.book.proofs.Meaning.{accepted-means}
 use Rattle.book.proofs.Handed.{Handed}
 use Rattle.written_book.specs.Written.{bookOf}
 use Rattle.written_book.specs.Writer.{overwritten}
-use Rattle.mirror_book.specs.Mirrored.{mirrored, firstMeasurement}
+use Rattle.mirror_book.specs.Mirrored.{mirrored, isGate, gateAt, firstMeasurement}
 use Rattle.mirror_book.specs.MirrorBook.{bytesOfAll, mirrorBytes, mirrorByAnswer, mirrorBook}
 use Rattle.mirror_writer.specs.Ready.{Entries}
+
+-- where nothing is measured, every operation is a gate
+is-gate : (x : Kind) → tallyKind x ≡ 0 → isGate x ≡ true
+is-gate gate e = refl
+is-gate (measures q) e = absurd (omega arith)
+
+pub none-found : (ops : List Operation) (m : ℕ) → measured ops m ≡ 0 → firstNot (gateAt ops) m ≡ Nowhere
+unfolding measured firstNot
+none-found ops zero e = refl
+none-found ops (suc m) e = rw (none-found ops m (omega arith), is-gate (kind (opAt ops m)) (omega arith))
 
 module _ (s : List ℕ) {d n choices : ℕ} (g : Handed s d n choices) {ops : List ℕ} (is : ops ≡ partOf s operationsEntry) where
   own : ops ≡ bodyOf s 1
@@ -38,6 +51,9 @@ module _ (s : List ℕ) {d n choices : ℕ} (g : Handed s d n choices) {ops : Li
 
   pub entries : Entries d n ops
   entries = record { dimension = g .dimension; whole = fits .0; operations = rw is (g .lists .operations) }
+
+  pub counted : choices ≡ measurementCount (operationsOf d n ops)
+  counted = rw own (sym (g .measurements))
 
   -- 4 bytes per operation
   sized : mirrorBytes (g .operations) ≡ 22 + length ops

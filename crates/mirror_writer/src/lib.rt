@@ -6,8 +6,8 @@ ghost use Prim.Native.Nat.{_+_, _*_, _/_, _<_, _≤_};
 ghost use lib.ListN.{length, getD};
 ghost use Rattle.modular.specs.Dimension.{listed};
 ghost use Rattle.tableau.specs.Tableau.{put};
-ghost use Rattle.circuit.specs.Circuit.{kind};
-ghost use Rattle.book_entries.specs.Entry.{timesIn, bytesOf};
+ghost use Rattle.circuit.specs.Circuit.{kind, measurementCount};
+ghost use Rattle.book_entries.specs.Entry.{timesIn, timesByte, bytesOf};
 ghost use Rattle.book.specs.Decoded.{operationsOf};
 ghost use Rattle.operation_codes.specs.Allowed.{AllAllowed};
 ghost use Rattle.written_book.specs.Written.{bookOf};
@@ -59,6 +59,18 @@ fn first_measurement(ops: &[u8], d: u8, n: usize) -> Place
     Place::Nowhere
 }
 
+// The same for a book whose measurements the reader has counted: one without any is not searched.
+fn measurement_in(ops: &[u8], measurements: usize, d: u8, n: usize) -> Place
+    requires { ⌜ AllAllowed d n (operationsOf d n (now ops))
+        × (measurements ≡ measurementCount (operationsOf d n (now ops))) ⌝ }
+    ensures { λ r. ⌜ r ≡ firstMeasurement (operationsOf d n (now (ops .entry))) ⌝ }
+{
+    if measurements == 0 {
+        return Place::Nowhere;
+    }
+    first_measurement(ops, d, n)
+}
+
 // The inverses of the numbers below 32.
 fn make_inverses(table: &mut [u8], d: u8)
     requires { ⌜ (listed d ≡ true)
@@ -72,8 +84,15 @@ fn make_inverses(table: &mut [u8], d: u8)
     }
 }
 
-// The last byte of the entry that undoes one with code b0 and last byte b3. A processor foresees a jump by the code badly, so all
-// codes but the multiplier's go by one formula.
+// How often a gate is applied, as it is written: once is written as 0.
+fn times_byte(k: u8) -> u8
+    ensures { λ r. ⌜ r ≡ timesByte k ⌝ }
+{
+    if k == 1 { 0 } else { k }
+}
+
+// The last byte of the entry that undoes one with code b0 and last byte b3. A processor foresees a jump by the code badly, so both
+// look-ups are made, whatever the code is.
 fn undone_byte(inverses: &[u8], orders: &[u8], b0: u8, b3: u8, d: u8) -> u8
     requires { ⌜ UndoTables d (now inverses) (now orders)
         × (b0 ≤ 6)
@@ -81,11 +100,10 @@ fn undone_byte(inverses: &[u8], orders: &[u8], b0: u8, b3: u8, d: u8) -> u8
         × (timesIn b3 ≤ getD (ordersOf d) b0 0) ⌝ }
     ensures { λ r. ⌜ r ≡ undoneByte d b0 b3 ⌝ }
 {
-    if b0 == 5 {
-        return inverses[casts::byte_as_usize(b3)];
-    }
+    let factor = inverses[casts::byte_as_usize(b3)];
     let missing = orders[casts::byte_as_usize(b0)] - book_entries::times_in(b3);
-    if missing == 1 { 0 } else { missing }
+    let times = times_byte(missing);
+    if b0 == 5 { factor } else { times }
 }
 
 // Entry k of the mirror: entry N − 1 − k of N, undone.
@@ -172,7 +190,7 @@ pub fn mirror(book: &[u8], out: &mut [u8]) -> Answer
     let d = numbers.d;
     let n = numbers.n;
     let ops = book::operations(book);
-    if let Place::At(place) = first_measurement(ops, d, n) {
+    if let Place::At(place) = measurement_in(ops, numbers.choices, d, n) {
         return answer::refused(12, place);
     }
     let place = 22 + ops.len();

@@ -26,7 +26,7 @@ use Rattle.book_laws.specs.Refusals.{NumbersListed, WriterNamesBody, LayerUncha
 use Rattle.book_laws.specs.Tray.{ShotsAreFrameRuns, TrayKeepsRest, TrayCounts, OwnErrorsUnused}
 use Rattle.mirror_laws.specs.Undone.{UndoingAllowed, RowUndone, RowsUndone}
 use Rattle.mirror_laws.specs.Lists.{ListsAccepted, ListsReturn, ListsCarry}
-use Rattle.mirror_laws.specs.Books.{MirrorAccepted, FillsMirror, MirrorReturns, MirrorCarries}
+use Rattle.mirror_laws.specs.Books.{MirrorAccepted, MirrorTwice, FillsMirror, MirrorReturns, MirrorCarries}
 use Rattle.book_laws.proofs.Refusals as refusals
 use Rattle.book_laws.proofs.LeavesValid as left
 use Rattle.book_laws.proofs.Second as second
@@ -65,6 +65,7 @@ use Rattle.shots.proofs.Clean as serves
 use Rattle.mirror_laws.proofs.Undone as undone
 use Rattle.mirror_laws.proofs.Lists as mirrored-lists
 use Rattle.mirror_laws.proofs.Books as mirrored-books
+use Rattle.mirror_laws.proofs.Twice as twice
 
 -- Demand 1: every entry point does its work or refuses with a listed number, and a refusal leaves what the list says. (That each exported
 -- function does so for every input is its contract, in crates/cagvost/src/lib.rt.)
@@ -133,6 +134,10 @@ fills-only-book = writer.fills-only-book
 -- operations reversed, each turned into its inverse.
 pub mirror-accepted : MirrorAccepted
 mirror-accepted = mirrored-books.mirror-accepted
+
+-- The mirror of the mirror is the book without its errors.
+pub mirror-twice : MirrorTwice
+mirror-twice = twice.mirror-twice
 
 -- A successful call fills the buffer with the mirror book alone, and keeps every byte past it.
 pub fills-mirror : FillsMirror

@@ -5,7 +5,7 @@ use denote.Ref.{now}
 use borrow.Author.Needs.{needs}
 use Rattle.book.proofs.Handed.{Handed, handed}
 use Rattle.mirror_book.specs.MirrorBook.{mirrorByAnswer, mirrorBook}
-use Rattle.mirror_writer.proofs.Books.{most, entries, measuring-book, short-book, mirrored-book}
+use Rattle.mirror_writer.proofs.Books.{most, entries, counted, measuring-book, short-book, mirrored-book}
 use Rattle.mirror_writer.proofs.mirror.Statement.{statement}
 use Rattle.mirror_writer.proofs.mirror.Tie as tie
 
@@ -22,12 +22,13 @@ operations-requires c κs =
     let g = handed (now (s .book)) (m .before .before .read .ensures) (m .reading .given .1) in
     (g .bodies .room, g .bodies .first)
 
-first-measurement-requires : tie.Need-first-measurement-requires
-first-measurement-requires c κs =
+measurement-in-requires : tie.Need-measurement-in-requires
+measurement-in-requires c κs =
     let m = c .before .before in
     let s = m .before .before .before .before .before .args in
     let g = handed (now (s .book)) (m .before .before .read .ensures) (m .reading .given .1) in
-    entries (now (s .book)) g (c .operations .ensures) .operations
+    let is = c .operations .ensures in
+    (entries (now (s .book)) g is .operations, counted (now (s .book)) g is)
 
 returns-2 : tie.Need-returns-2
 returns-2 c =
@@ -36,7 +37,7 @@ returns-2 c =
     let s = m .before .before .before .before .before .args in
     let g = handed (now (s .book)) (m .before .before .read .ensures) (m .reading .given .1) in
     rw (c .refused2 .ensures)
-    (measuring-book (now (s .book)) g (o .operations .ensures) (now (s .out)) _ (sym (c .before .before .place .given .1) ∙ c .before .before .before .before .first-measurement .ensures))
+    (measuring-book (now (s .book)) g (o .operations .ensures) (now (s .out)) _ (sym (c .before .before .place .given .1) ∙ c .before .before .before .before .measurement-in .ensures))
 
 returns-3 : tie.Need-returns-3
 returns-3 c =
@@ -46,7 +47,7 @@ returns-3 c =
     let s = m .before .before .before .before .before .args in
     let g = handed (now (s .book)) (m .before .before .read .ensures) (m .reading .given .1) in
     rw (c .refused3 .ensures)
-    (short-book (now (s .book)) g (o .operations .ensures) (now (s .out)) (sym (e .enum-told .given .1) ∙ e .before .before .first-measurement .ensures) (c .before .if1 .taken))
+    (short-book (now (s .book)) g (o .operations .ensures) (now (s .out)) (sym (e .enum-told .given .1) ∙ e .before .before .measurement-in .ensures) (c .before .if1 .taken))
 
 write-mirror-requires : tie.Need-write-mirror-requires
 write-mirror-requires c κs =
@@ -67,7 +68,7 @@ returns-4 c =
     let s = m .before .before .before .before .before .args in
     let g = handed (now (s .book)) (m .before .before .read .ensures) (m .reading .given .1) in
     rw (w .write-mirror .ensures)
-    (mirrored-book (now (s .book)) g (o .operations .ensures) (now (s .out)) (sym (e .enum-told .given .1) ∙ e .before .before .first-measurement .ensures) (w .before .before .if1 .left))
+    (mirrored-book (now (s .book)) g (o .operations .ensures) (now (s .out)) (sym (e .enum-told .given .1) ∙ e .before .before .measurement-in .ensures) (w .before .before .if1 .left))
 
 pub mirror-spec : {M : Type 1} → statement M
 mirror-spec =
@@ -80,7 +81,7 @@ mirror-spec =
     (λ c κs. search needs)
     returns
     operations-requires
-    first-measurement-requires
+    measurement-in-requires
     (λ c. search needs)
     (λ c κs. search needs)
     returns-2
