@@ -3,7 +3,7 @@
 use mathlib.Core.Path.{_≡_}
 use mathlib.Core.Bool.{true, and-eq-true-iff}
 use mathlib.Core.List.{List}
-use Prim.Native.Nat.{ℕ, _+_, _≤_}
+use Prim.Native.Nat.{ℕ, _+_, _%_, _≤_}
 use native.Mathlib.Omega.{arith}
 use lib.Dec.{eqb, leb}
 use lib.ListN.{length, getD, drop, length-drop}
@@ -102,7 +102,9 @@ by-kind s kind e = rw e
 
 -- an accepted book's operations are whole entries, and not too many
 pub whole-operations : {d n operations errors choices : ℕ} (s : List ℕ) → readBook s ≡ accepted d n operations errors choices
-    → lengthFits (length (bodyOf s 1)) 4 4096 ≡ true
+    → (length (bodyOf s 1) % 4 ≡ 0) × (length (bodyOf s 1) ≤ 16384)
 whole-operations {d} {n} {operations} {errors} {choices} s e =
     let lies = laid s (all-passed s (no-refusal d n operations errors choices) e .contents) in
-    rw (by-kind s 1 e, part-length s operationsEntry (omega (arith, lies .second .offset, lies .third .offset, lies .ends))) (lies .first .whole)
+    let size = part-length s operationsEntry (omega (arith, lies .second .offset, lies .third .offset, lies .ends)) in
+    let fits = and-eq-true-iff (eqb (lengthOf s operationsEntry % 4) 0) (leb (lengthOf s operationsEntry) 16384) .0 (lies .first .whole) in
+    rw (by-kind s 1 e, size) (eqb-true _ 0 (fits .0), leb-true _ 16384 (fits .1))

@@ -28,7 +28,7 @@ use Rattle.book_laws.specs.Lent.{Lent}
 use Rattle.book_laws.specs.Clean.{Compared, CleanExactly}
 use Rattle.book_laws.proofs.Left.{start, window, direct-left, frame-left}
 
-no-errors : errorsOf [] ≡ []
+pub no-errors : errorsOf [] ≡ []
 unfolding errorsOf tab
 no-errors = refl
 

@@ -22,7 +22,7 @@ record Singly (d n : ℕ) (op : Operation) : Type 0 where
   fits : (k : ℕ) → 0 < k → k ≤ timesOf op → allowed d n (applied k op) ≡ true
   makes : (k : ℕ) → 0 < k → k < timesOf op → Makes d n (applied k op) (once op) (applied (k + 1) op)
 
-both-true : (x y : Bool) → x ≡ true → y ≡ true → x && y ≡ true
+pub both-true : (x y : Bool) → x ≡ true → y ≡ true → x && y ≡ true
 both-true x y e f = rw (e, f)
 
 -- operands that were in range with a larger number, with a smaller one

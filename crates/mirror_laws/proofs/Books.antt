@@ -2,37 +2,36 @@
 -- Assumes nothing.
 use mathlib.Core.Path.{_≡_, refl, sym, ap, subst, _∙_}
 use mathlib.Core.Bool.{true}
-use mathlib.Core.List.{List, [], _∷_, _++_}
-use Prim.Native.Nat.{ℕ, _+_, _*_, _%_, _/_, _<_, _≤_}
+use mathlib.Core.List.{List, [], _∷_}
+use Prim.Native.Nat.{ℕ, _%_, _/_, _<_, _≤_}
 use native.Mathlib.Nat.{le-refl}
 use native.Mathlib.Omega.{arith}
-use lib.Dec.{eqb, leb}
-use lib.ListN.{length, take, drop, take-append-drop}
+use lib.Dec.{leb}
+use lib.ListN.{length, drop, take-append-drop}
 use lib.Seq.{take-at, drop-at}
-use borrow.Author.Tests.{eqb-true}
-use Rattle.modular.specs.Dimension.{Dimension, listed}
+use borrow.Author.Tests.{eq-eqb, le-leb}
+use Rattle.modular.specs.Dimension.{Dimension}
 use Rattle.modular.proofs.Listed.{dimension}
 use Rattle.search.specs.declared.Place.{Place}
 use Rattle.search.specs.declared.Place.the-variants.{At, Nowhere}
 use Rattle.search.specs.Search.{unless, firstNot}
-use Rattle.search.proofs.Search.{both, unless-cases}
-use Rattle.row.specs.Row.{tab}
+use Rattle.search.proofs.Search.{unless-cases}
 use Rattle.operation.specs.declared.Operation.{Operation}
 use Rattle.operation.specs.declared.WeylError.{WeylError}
 use Rattle.operation.specs.Operation.{allowed}
 use Rattle.validity.specs.Validity.{Valid}
-use Rattle.saved_tableau.specs.Saved.{dimensionIn, quditsIn, rowsIn, withRows, tableauBytes, selfValid, validFor}
+use Rattle.saved_tableau.specs.Saved.{rowsIn, withRows, tableauBytes, validFor}
 use Rattle.saved_tableau_laws.specs.Exactly.{SelfValid}
 use Rattle.saved_tableau_laws.proofs.Rows.{opened, same-bytes, rows-back}
 use Rattle.saved_tableau_laws.proofs.Exactly.{self-valid-exactly, valid-for, valid-rows}
 use Rattle.circuit.specs.Circuit.{opAt, measurementCount, Accepted}
 use Rattle.book_body.specs.Body.{lengthFits, badError, badChoice, accepted, readBodies}
 use Rattle.book.specs.Book.{readBook, bodyOf}
-use Rattle.book.specs.Decoded.{Means, operationsOf, errorsOf, opsIn, errorsIn, choicesIn, measurementsIn}
+use Rattle.book.specs.Decoded.{Means, opsIn, errorsIn, choicesIn, measurementsIn}
 use Rattle.book.proofs.Contents.{whole-operations}
 use Rattle.book.proofs.Lists.{op-count}
 use Rattle.book.proofs.Meaning.{accepted-means}
-use Rattle.written_book.specs.Written.{badLengths, readParts, HasBodies}
+use Rattle.written_book.specs.Written.{readParts, HasBodies}
 use Rattle.written_book.specs.Writer.{WriteLeft, overwritten}
 use Rattle.written_book.proofs.Read.{book-length, reads-written, bodies-back}
 use Rattle.runs.specs.Direct.{stateOf, directRun}
@@ -42,6 +41,7 @@ use Rattle.run_laws.proofs.Books.{without-errors}
 use Rattle.run_laws.proofs.Sound.{run-keeps-valid}
 use Rattle.direct_run.specs.DirectBook.{directEnded, directBook}
 use Rattle.book_laws.proofs.Left.{direct-ended}
+use Rattle.book_laws.proofs.Clean.{no-errors}
 use Rattle.book_laws.proofs.WithoutErrors.{empty}
 use Rattle.mirror_book.specs.Mirrored.{mirrored, firstMeasurement}
 use Rattle.mirror_book.specs.MirrorBook.{bytesOfAll, mirrorOf, mirrorBytes, refuse12, mirrorByAnswer, mirrorBook}
@@ -50,10 +50,6 @@ use Rattle.mirror_book.proofs.Body.{body-length, entry-count, read-again, none-
 use Rattle.mirror_laws.specs.Lists.{rowsThereAndBack}
 use Rattle.mirror_laws.specs.Books.{IsMirror, MirrorAccepted, MirrorFilled, FillsMirror, Start, Ends, MirrorReturns, carriedThrough, MirrorCarries}
 use Rattle.mirror_laws.proofs.Lists.{gates-of, none-measured, mirrored-gates, mirrored-allowed, lists-return, lists-carry}
-
-no-errors : errorsOf [] ≡ []
-unfolding errorsOf tab
-no-errors = refl
 
 module _ (s : List ℕ) {d n operations errors choices : ℕ} (e : readBook s ≡ accepted d n operations errors choices)
     (none : firstMeasurement (opsIn s d n) ≡ Nowhere) where
@@ -82,10 +78,8 @@ module _ (s : List ℕ) {d n operations errors choices : ℕ} (e : readBook s �
   whole : lengthFits (length body) 4 4096 ≡ true
   whole =
       let fits = whole-operations s e in
-      let b = both (eqb (length (bodyOf s 1) % 4) 0) (leb (length (bodyOf s 1)) (4 * 4096)) fits in
-      let rest = eqb-true (length (bodyOf s 1) % 4) 0 (b .0) in
-      let q : length body ≡ length (bodyOf s 1) = omega (arith, body-length (mirrored d ops), mirrored-length d ops, op-count d n (bodyOf s 1), rest) in
-      rw q fits
+      let size : length body ≡ length (bodyOf s 1) = omega (arith, body-length (mirrored d ops), mirrored-length d ops, op-count d n (bodyOf s 1), fits .0) in
+      rw (size, eq-eqb (length (bodyOf s 1) % 4) 0 (fits .0), le-leb (length (bodyOf s 1)) 16384 (fits .1))
 
   accepts : readBook mirror ≡ accepted d n operations 0 0
   unfolding readParts readBodies badError badChoice firstNot

@@ -22,7 +22,7 @@ use Rattle.validity.proofs.Exactly.{valid-tableau}
 use Rattle.validity_laws.proofs.Keeping.{gate-keeps-valid}
 use Rattle.circuit.specs.Circuit.{opAt, Kind, gate, measures, kind, measured, Accepted}
 use Rattle.runs.specs.Run.{stepsFrom}
-use Rattle.runs.specs.Direct.{State, stateOf, errorsOnRows, directKind, directErrors, directStep, directRun}
+use Rattle.runs.specs.Direct.{stateOf, errorsOnRows, directKind, directErrors, directStep, directRun}
 use Rattle.runs.specs.Frame.{Frame, noFrame, shiftRows}
 use Rattle.runs.specs.Raised.{finalFrame, raised}
 use Rattle.runs.proofs.Frames.{no-powers, no-frame, final-frame}
@@ -137,9 +137,9 @@ lists-return d n dim ops choices ac none t results results' ok =
     ∙ all-back d n dim ops (ac .operations) t ok
 
 -- Where nothing is measured, there are no choices to raise.
-raised-none : (d n : ℕ) (ops : List Operation) (errors : List WeylError) (F choices : List ℕ) → choices ≡ [] → raised d n ops errors F choices ≡ choices
+none-raised : (d n : ℕ) (ops : List Operation) (errors : List WeylError) (F choices : List ℕ) → choices ≡ [] → raised d n ops errors F choices ≡ choices
 unfolding raised tab
-raised-none d n ops errors F choices e = rw e
+none-raised d n ops errors F choices e = rw e
 
 module _ (d n : ℕ) (dim : Dimension d) (ops : List Operation) (errors : List WeylError) (choices : List ℕ)
     (ac : Accepted d n ops errors choices) (none : choices ≡ []) (F : List ℕ) where
@@ -147,7 +147,7 @@ module _ (d n : ℕ) (dim : Dimension d) (ops : List Operation) (errors : List W
       → directRun d n ops errors choices (stateOf (shiftRows d n F t) results) .rows
       ≡ shiftRows d n (finalFrame d n ops errors F) (directRun d n ops [] choices (stateOf t results) .rows)
   shifted-run f t results ok =
-      rw (raised-none d n ops errors F choices none) at (direct-shifted d n dim ops errors choices F ac f t results ok)
+      rw (none-raised d n ops errors F choices none) at (direct-shifted d n dim ops errors choices F ac f t results ok)
 
 pub lists-carry : ListsCarry
 lists-carry d n dim ops errors choices ac none t results results' ok =

@@ -3,31 +3,25 @@
 use mathlib.Core.Path.{_≡_, refl, sym, ap, _∙_}
 use mathlib.Core.Bool.{true}
 use mathlib.Core.List.{List, [], _∷_}
-use Prim.Native.Nat.{ℕ, zero, suc, _+_, _-_, _*_, _%_, _/_, _<_, _≤_}
+use Prim.Native.Nat.{ℕ, zero, suc, _+_, _-_, _*_, _%_, _/_, _<_}
 use native.Mathlib.Nat.{le-refl}
 use native.Mathlib.Omega.{arith}
-use lib.Dec.{eqb, leb}
 use lib.ListN.{length, getD}
 use lib.Seq.{ext-getD}
-use borrow.Author.Tests.{eqb-true}
 use Rattle.congruence.proofs.Congruence.{Cong, cong-eq, cong-sym, cong-trans, cong-mul-left, small-cong}
 use Rattle.modular.specs.Dimension.{inverse, Dimension}
 use Rattle.modular.proofs.Listed.{dimension}
-use Rattle.search.proofs.Search.{both}
 use Rattle.operation.specs.declared.Operation.{Operation}
 use Rattle.operation.specs.declared.Operation.the-variants.{Fourier, PhaseGate, Sum, Cz, Swap, Multiplier, Measure}
 use Rattle.operation.specs.Operation.{allowed}
 use Rattle.operation.proofs.Operands.{single-facts, pair-facts}
 use Rattle.circuit.specs.Circuit.{opAt}
-use Rattle.book_entries.specs.Entry.{bytesOf}
-use Rattle.book_entries.proofs.Decoding.{decoded-exactly}
 use Rattle.book.specs.Book.{bodyOf}
 use Rattle.book.specs.Decoded.{operationsOf, opsIn, choicesIn}
 use Rattle.book.proofs.Contents.{whole-operations}
 use Rattle.book.proofs.Lists.{op-count}
 use Rattle.book.proofs.Meaning.{accepted-means}
-use Rattle.operation_codes.proofs.Codes.{is-read}
-use Rattle.written_book.specs.Written.{bookOf}
+use Rattle.operation_codes.proofs.Codes.{own-bytes}
 use Rattle.book_laws.proofs.WithoutErrors.{empty}
 use Rattle.mirror_book.specs.Undoing.{undoing}
 use Rattle.mirror_book.specs.Mirrored.{mirrored}
@@ -108,11 +102,11 @@ module _ (d n : ℕ) (ops : List ℕ) (whole : length ops % 4 ≡ 0)
       let listed : k < length (operationsOf d n ops) = rw (op-count d n ops) inside in
       ap (λ (x : ℕ). getD (bytesOfAll (operationsOf d n ops)) x 0) q
       ∙ byte-at (operationsOf d n ops) k j listed low
-      ∙ nth _ ops k (decoded-exactly d n _ _ _ _ (opAt (operationsOf d n ops) k) .0 (is-read d n ops k inside (good k listed)) .1) j low
+      ∙ nth _ ops k (own-bytes d n ops k inside (good k listed)) j low
       ∙ ap (λ (x : ℕ). getD ops x 0) (sym q)
 
-  own-bytes : bytesOfAll (operationsOf d n ops) ≡ ops
-  own-bytes =
+  written-again : bytesOfAll (operationsOf d n ops) ≡ ops
+  written-again =
       let size : length (bytesOfAll (operationsOf d n ops)) ≡ length ops = omega (arith, body-length (operationsOf d n ops), op-count d n ops, whole) in
       ext-getD 0 _ _ size (λ i l. own-byte i (omega (arith, size)))
 
@@ -121,7 +115,6 @@ mirror-twice s d n operations errors choices e none =
     let m = accepted-means s d n operations errors choices e in
     let dim = dimension d (m .dimension-listed) in
     let ops = opsIn s d n in
-    let fits = both (eqb (length (bodyOf s 1) % 4) 0) (leb (length (bodyOf s 1)) (4 * 4096)) (whole-operations s e) in
-    let whole = eqb-true (length (bodyOf s 1) % 4) 0 (fits .0) in
+    let whole = whole-operations s e .0 in
     let no-choices = empty (choicesIn s) (m .lists .one-each ∙ none-measured ops (gates-of ops none) (length ops) (le-refl (length ops))) in
-    rw (reads s e none, mirrored-twice d n dim ops (m .lists .operations), own-bytes d n (bodyOf s 1) whole (m .lists .operations), no-choices)
+    rw (reads s e none, mirrored-twice d n dim ops (m .lists .operations), written-again d n (bodyOf s 1) whole (m .lists .operations), no-choices)

@@ -26,6 +26,7 @@ use Rattle.operation.proofs.Operands.{distinct-facts, single-facts, pair-facts}
 use Rattle.conjugation.proofs.Put.{put-cong, put-again, put-self, Apart, put-two, two-xc, two-zc, two-xt, two-zt, two-again}
 use Rattle.conjugation.proofs.Acts.{mapped, gained, reads-gate}
 use Rattle.conjugation.proofs.Composed.{Makes, put-values, two-values, squared, cancelled, phase-gates, sums, czs}
+use Rattle.conjugation.proofs.Repeated.{both-true}
 use Rattle.mirror_book.specs.Undoing.{undoing}
 use Rattle.mirror_laws.specs.Undone.{UndoingAllowed, RowUndone, RowsUndone}
 
@@ -184,9 +185,6 @@ fourier-undone e n q (suc zero) l low high = once-undone e n q l
 fourier-undone e n q (suc (suc zero)) l low high = twice-undone e n q l
 fourier-undone e n q (suc (suc (suc zero))) l low high = thrice-undone e n q l
 fourier-undone e n q (suc (suc (suc (suc k)))) l low high = absurd (omega arith)
-
-both-true : (x y : Bool) → x ≡ true → y ≡ true → x && y ≡ true
-both-true x y e f = rw (e, f)
 
 -- operands that were in range with k, with m − k
 rest-fits : (m k : ℕ) (x : Bool) → x && fromOne m k ≡ true → 0 < k → k < m → x && fromOne m (m - k) ≡ true

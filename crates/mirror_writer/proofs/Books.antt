@@ -3,18 +3,14 @@
 use mathlib.Core.Path.{_≡_, refl, sym, ap, _∙_}
 use mathlib.Core.Bool.{true}
 use mathlib.Core.List.{List, []}
-use Prim.Native.Nat.{ℕ, zero, suc, _+_, _*_, _%_, _<_, _≤_}
+use Prim.Native.Nat.{ℕ, zero, suc, _+_, _%_, _<_, _≤_}
 use native.Mathlib.Omega.{arith}
-use lib.Dec.{eqb, leb}
 use lib.ListN.{length}
-use borrow.Author.Tests.{eqb-true, leb-true, lt-leb, le-leb}
-use Rattle.search.specs.declared.Place.{Place}
+use borrow.Author.Tests.{lt-leb, le-leb}
 use Rattle.search.specs.declared.Place.the-variants.{At, Nowhere}
 use Rattle.search.specs.Search.{firstNot}
-use Rattle.search.proofs.Search.{both}
 use Rattle.operation.specs.declared.Operation.{Operation}
 use Rattle.circuit.specs.Circuit.{opAt, Kind, gate, measures, kind, tallyKind, measured, measurementCount}
-use Rattle.book_body.specs.Body.{lengthFits}
 use Rattle.book.specs.Book.{operationsEntry, partOf, bodyOf}
 use Rattle.book.specs.Decoded.{operationsOf}
 use Rattle.book.proofs.Contents.{whole-operations}
@@ -42,9 +38,7 @@ module _ (s : List ℕ) {d n choices : ℕ} (g : Handed s d n choices) {ops : Li
   own = is ∙ sym (g .first)
 
   fits : (length ops % 4 ≡ 0) × (length ops ≤ 16384)
-  fits =
-      let b = both (eqb (length ops % 4) 0) (leb (length ops) (4 * 4096)) (rw own (whole-operations s (g .reads))) in
-      (eqb-true (length ops % 4) 0 (b .0), leb-true (length ops) (4 * 4096) (b .1))
+  fits = rw own (whole-operations s (g .reads))
 
   pub most : length ops ≤ 16384
   most = fits .1

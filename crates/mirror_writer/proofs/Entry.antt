@@ -1,11 +1,11 @@
 -- An entry and the one that undoes it differ in the last byte alone, and the tables have that byte.
 -- Assumes nothing.
-use mathlib.Core.Path.{_≡_, refl, sym, ap, _∙_}
+use mathlib.Core.Path.{_≡_, refl, ap, _∙_}
 use mathlib.Core.Bool.{true}
-use mathlib.Core.List.{List, [], _∷_, _++_}
+use mathlib.Core.List.{List, [], _∷_}
 use Prim.Native.Nat.{ℕ, zero, suc, _+_, _-_, _*_, _/_, _<_, _≤_}
 use native.Mathlib.Omega.{arith}
-use lib.ListN.{length, getD, set, take, drop}
+use lib.ListN.{length, getD, set}
 use borrow.Author.Tests.{ne-eqb}
 use Rattle.modular.specs.Dimension.{Dimension}
 use Rattle.modular.proofs.Listed.{dimension}
@@ -16,10 +16,10 @@ use Rattle.operation.specs.Operation.{allowed}
 use Rattle.operation.proofs.Operands.{single-facts, pair-facts}
 use Rattle.circuit.specs.Circuit.{opAt}
 use Rattle.book_entries.specs.Entry.{timesIn, timesByte, bytesOf}
-use Rattle.book_entries.proofs.Decoding.{spelt-once, decoded-exactly}
+use Rattle.book_entries.proofs.Decoding.{spelt-once}
 use Rattle.book.specs.Decoded.{operationsOf}
 use Rattle.book.proofs.Lists.{op-count}
-use Rattle.operation_codes.proofs.Codes.{is-read}
+use Rattle.operation_codes.proofs.Codes.{own-bytes}
 use Rattle.mirror_book.specs.Undoing.{undoing}
 use Rattle.mirror_book.specs.Mirrored.{mirrorAt}
 use Rattle.mirror_writer.specs.LastByte.{ordersOf, undoneByte}
@@ -95,7 +95,7 @@ module _ (d n : ℕ) (dim : Dimension d) (ops : List ℕ) (j : ℕ) (inside : j 
   code = getD ops (4 * j) 0
 
   own : (code ≡ getD (bytesOf op) 0 0) × (at 1 ≡ getD (bytesOf op) 1 0) × (at 2 ≡ getD (bytesOf op) 2 0) × (at 3 ≡ getD (bytesOf op) 3 0)
-  own = at-byte code (at 1) (at 2) (at 3) (decoded-exactly d n code (at 1) (at 2) (at 3) op .0 (is-read d n ops j inside h) .1)
+  own = at-byte code (at 1) (at 2) (at 3) (own-bytes d n ops j inside h)
 
   pub entry-asked : Asked d code (at 3)
   unfolding byte

@@ -3,7 +3,7 @@
 use mathlib.Core.Path.{_≡_, refl, sym, ap, _∙_}
 use mathlib.Core.Logic.{_≢_}
 use mathlib.Core.Bool.{Bool, true, false, _&&_, and-eq-true-iff}
-use mathlib.Core.List.{List}
+use mathlib.Core.List.{List, [], _∷_}
 use Prim.Native.Nat.{ℕ, zero, suc, _+_, _*_, _/_, _<_, _≤_}
 use native.Mathlib.Omega.{arith}
 use lib.Dec.{ltb, leb}
@@ -16,8 +16,9 @@ use Rattle.operation.proofs.Operands.{distinct-facts}
 use Rattle.circuit.specs.Circuit.{opAt, gate, kind}
 use Rattle.book_entries.specs.declared.Decoded.{Decoded}
 use Rattle.book_entries.specs.declared.Decoded.the-variants.{Good}
-use Rattle.book_entries.specs.Entry.{goodIf, coded, operationAt}
+use Rattle.book_entries.specs.Entry.{bytesOf, goodIf, coded, operationAt}
 use Rattle.book_entries.specs.Fits.{fits}
+use Rattle.book_entries.proofs.Decoding.{decoded-exactly}
 use Rattle.book_entries.proofs.Fitting.{by-fits, coded-other}
 use Rattle.book.specs.Decoded.{operationIn, operationsOf}
 use Rattle.book.proofs.Lists.{op-at}
@@ -52,12 +53,15 @@ module _ (d n : ℕ) (ops : List ℕ) (k : ℕ) (inside : k < length ops / 4) (h
   pub is-coded : opAt (operationsOf d n ops) k ≡ coded code (byte 1) (byte 2) (byte 3)
   is-coded = op-at d n ops k inside ∙ ap operationIn (by-fits d n (byte 1) (byte 2) (byte 3) code ∙ ap (λ (t : Bool). goodIf t (coded code (byte 1) (byte 2) (byte 3))) fit)
 
-  -- so its bytes are read as that operation
-  pub is-read : operationAt d n ops k ≡ Good (opAt (operationsOf d n ops) k)
+  -- so its bytes are read as that operation, and are the operation's
+  is-read : operationAt d n ops k ≡ Good (opAt (operationsOf d n ops) k)
   is-read =
       by-fits d n (byte 1) (byte 2) (byte 3) code
       ∙ ap (λ (t : Bool). goodIf t (coded code (byte 1) (byte 2) (byte 3))) fit
       ∙ ap Good (sym is-coded)
+
+  pub own-bytes : code ∷ byte 1 ∷ byte 2 ∷ byte 3 ∷ [] ≡ bytesOf (opAt (operationsOf d n ops) k)
+  own-bytes = decoded-exactly d n code (byte 1) (byte 2) (byte 3) (opAt (operationsOf d n ops) k) .0 is-read .1
 
   pub code-6 : code ≡ 6 → opAt (operationsOf d n ops) k ≡ Measure (byte 1)
   unfolding coded

@@ -1,7 +1,7 @@
 -- `mirror_writer::make_inverses` meets its contract.
 -- Assumes nothing.
-use mathlib.Core.Path.{_∙_, ap}
-use Prim.Native.Nat.{ℕ, _-_, _≤_}
+use mathlib.Core.Path.{_∙_}
+use Prim.Native.Nat.{_-_, _≤_}
 use native.Mathlib.Omega.{arith}
 use Rattle.modular.specs.Dimension.{inverse}
 use Rattle.modular.proofs.Listed.{dimension}

@@ -3,7 +3,6 @@
 use mathlib.Core.Path.{sym, _∙_}
 use lib.ListN.{length}
 use denote.Ref.{now}
-use borrow.Author.Needs.{needs}
 use Rattle.book.specs.Decoded.{operationsOf}
 use Rattle.mirror_writer.proofs.Books.{none-found}
 use Rattle.mirror_writer.proofs.measurement_in.Statement.{statement}

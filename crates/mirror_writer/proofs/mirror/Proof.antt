@@ -1,9 +1,9 @@
 -- `mirror_writer::mirror` meets its contract.
 -- Assumes nothing.
-use mathlib.Core.Path.{sym, ap, _∙_}
+use mathlib.Core.Path.{sym, _∙_}
 use denote.Ref.{now}
 use borrow.Author.Needs.{needs}
-use Rattle.book.proofs.Handed.{Handed, handed}
+use Rattle.book.proofs.Handed.{handed}
 use Rattle.mirror_book.specs.MirrorBook.{mirrorByAnswer, mirrorBook}
 use Rattle.mirror_writer.proofs.Books.{most, entries, counted, measuring-book, short-book, mirrored-book}
 use Rattle.mirror_writer.proofs.mirror.Statement.{statement}

@@ -1,6 +1,5 @@
 -- `mirror_writer::mirror_entry` meets its contract.
 -- Assumes nothing.
-use mathlib.Core.Path.{_∙_}
 use native.Mathlib.Omega.{arith}
 use lib.ListN.{length-set}
 use denote.Ref.{now}
