@@ -52,8 +52,8 @@ pub const fn mirror_len(operations: usize) -> usize {
 /// cagvost::direct_run(&mirror, &mut tableau, &mut [])?;
 /// assert_eq!(tableau, zero);
 ///
-/// // With an X error after the circuit, qudit 1 comes back at level 3: the multiplier by 3 makes X
-/// // to the third power of X, and SUM from qudit 0 does not change this.
+/// // With an X error after the circuit, qudit 1 comes back at level 3: the multiplier by 3 makes X³
+/// // of X, and SUM from qudit 0 does not change this.
 /// circuit.error(1, 1, 0);
 /// cagvost::direct_run(&circuit.to_bytes(), &mut tableau, &mut [])?;
 /// cagvost::direct_run(&mirror, &mut tableau, &mut [])?;

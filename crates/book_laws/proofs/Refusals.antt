@@ -28,8 +28,7 @@ use Rattle.direct_run.specs.DirectBook.{DirectLeft, directBuffersFit, directByA
 use Rattle.frame_run.specs.FrameBook.{Buffers, FrameLeft, frameBuffersFit, frameByAnswer, frameBook}
 use Rattle.shots.specs.Shots.{trayBook}
 use Rattle.shots.proofs.Refusals.{tray-cases}
-use Rattle.mirror_book.specs.Mirrored.{firstMeasurement}
-use Rattle.mirror_book.specs.MirrorBook.{mirrorOf, mirrorBytes, refuse12, mirrorByAnswer, mirrorBook}
+use Rattle.mirror_book.specs.MirrorBook.{mirrorOf, mirrorBytes, firstMeasurement, refuse12, mirrorByAnswer, mirrorBook}
 use Rattle.book_laws.specs.Refusals.{runNumbers, trayNumbers, writerNumbers, mirrorNumbers, NumbersListed, WriterNamesBody, LayerUnchanged, WriterUnchanged, DirectUnchanged, FrameUnchanged, TrayUnchanged, MirrorUnchanged}
 
 layer-listed : (d n : ℕ) (t : List ℕ) → among (layerNumber d n t) (0 ∷ 2 ∷ 3 ∷ 8 ∷ []) ≡ true

@@ -19,12 +19,12 @@ use Rattle.mirror_book.specs.Undoing.{undoing}
 use Rattle.mirror_book.specs.Mirrored.{mirrored}
 use Rattle.mirror_book.specs.MirrorBook.{bytesOfAll, mirrorByAnswer, mirrorBook}
 
--- a = (1,2), b = (3,4), phase 1, for d = 5 and n = 2
+-- a = (1,2), b = (3,4), phase 1, for d = 7 and n = 2
 abbrev row : List ℕ
 row = 1 ∷ 2 ∷ 3 ∷ 4 ∷ 1 ∷ []
 
 abbrev Undone : Operation → Type 0
-Undone op = gateRow 5 2 (undoing 5 op) (gateRow 5 2 op row) ≡ row
+Undone op = gateRow 7 2 (undoing 7 op) (gateRow 7 2 op row) ≡ row
 
 fourier-undone : Undone (Fourier 0 1) × Undone (Fourier 1 2) × Undone (Fourier 0 3)
 unfolding gateRow gatePowers gatePhase
@@ -46,50 +46,78 @@ swap-undone : Undone (Swap 0 1)
 unfolding gateRow gatePowers gatePhase
 swap-undone = refl
 
-multiplier-undone : Undone (Multiplier 1 2)
+multiplier-undone : Undone (Multiplier 1 3)
 unfolding gateRow gatePowers gatePhase inverse powerOf
 multiplier-undone = refl
 
--- Fourier on 0, SUM from 0 to 1, phase gate on 1 four times, swap of 1 and 0, multiplier by 2 on 0
+-- Fourier on 0, SUM from 0 to 1 six times, CZ of 1 and 0 three times, phase gate on 1 twice, swap of 1 and 0, multiplier by 3 on 0
 abbrev gates : List ℕ
-gates = 0 ∷ 0 ∷ 0 ∷ 0 ∷ 2 ∷ 0 ∷ 1 ∷ 0 ∷ 1 ∷ 1 ∷ 0 ∷ 4 ∷ 4 ∷ 1 ∷ 0 ∷ 0 ∷ 5 ∷ 0 ∷ 0 ∷ 2 ∷ []
+gates =
+    0 ∷ 0 ∷ 0 ∷ 0
+    ∷ 2 ∷ 0 ∷ 1 ∷ 6
+    ∷ 3 ∷ 1 ∷ 0 ∷ 3
+    ∷ 1 ∷ 1 ∷ 0 ∷ 2
+    ∷ 4 ∷ 1 ∷ 0 ∷ 0
+    ∷ 5 ∷ 0 ∷ 0 ∷ 3 ∷ []
 
 -- before operation 2, on qudit 1: X Z²
 abbrev errors : List ℕ
 errors = 2 ∷ 0 ∷ 1 ∷ 1 ∷ 2 ∷ []
 
--- multiplier by 3 on 0, swap, phase gate once, SUM four times, Fourier three times; no errors and no choices
+-- multiplier by 5, swap, phase gate five times, CZ four times, SUM once, Fourier three times; no errors and no choices
 abbrev mirror : List ℕ
 mirror =
-    81 ∷ 5 ∷ 2 ∷ 3
-    ∷ 1 ∷ 0 ∷ 22 ∷ 0 ∷ 20 ∷ 0
-    ∷ 2 ∷ 0 ∷ 42 ∷ 0 ∷ 0 ∷ 0
-    ∷ 3 ∷ 0 ∷ 42 ∷ 0 ∷ 0 ∷ 0
-    ∷ 5 ∷ 0 ∷ 0 ∷ 3 ∷ 4 ∷ 1 ∷ 0 ∷ 0 ∷ 1 ∷ 1 ∷ 0 ∷ 0 ∷ 2 ∷ 0 ∷ 1 ∷ 4 ∷ 0 ∷ 0 ∷ 0 ∷ 3 ∷ []
+    81 ∷ 7 ∷ 2 ∷ 3
+    ∷ 1 ∷ 0 ∷ 22 ∷ 0 ∷ 24 ∷ 0
+    ∷ 2 ∷ 0 ∷ 46 ∷ 0 ∷ 0 ∷ 0
+    ∷ 3 ∷ 0 ∷ 46 ∷ 0 ∷ 0 ∷ 0
+    ∷ 5 ∷ 0 ∷ 0 ∷ 5
+    ∷ 4 ∷ 1 ∷ 0 ∷ 0
+    ∷ 1 ∷ 1 ∷ 0 ∷ 5
+    ∷ 3 ∷ 1 ∷ 0 ∷ 4
+    ∷ 2 ∷ 0 ∷ 1 ∷ 0
+    ∷ 0 ∷ 0 ∷ 0 ∷ 3 ∷ []
+
+-- CZ of qudits 4 and 2 twice, of five qutrits: undone by CZ once
+abbrev other : List ℕ
+other =
+    81 ∷ 3 ∷ 5 ∷ 3
+    ∷ 1 ∷ 0 ∷ 22 ∷ 0 ∷ 4 ∷ 0
+    ∷ 2 ∷ 0 ∷ 26 ∷ 0 ∷ 0 ∷ 0
+    ∷ 3 ∷ 0 ∷ 26 ∷ 0 ∷ 0 ∷ 0
+    ∷ 3 ∷ 4 ∷ 2 ∷ 0 ∷ []
 
 -- a buffer of so many sevens
 abbrev sevens : ℕ → List ℕ
 sevens k = replicate k 7
 
--- the call, for a book of dimension 5 and two qudits, refuses a buffer of so many sevens, and leaves it
-abbrev Refuses : (ops errors choices : List ℕ) (size number place : ℕ) → Type 0
-Refuses ops errors choices size number place =
-    mirrorBook (bookOf 5 2 ops errors choices) (sevens size) ≡ record { number = number; place = place; out = sevens size }
+-- the call refuses a buffer of so many sevens, and leaves it
+abbrev Refuses : (d n : ℕ) (ops errors choices : List ℕ) (size number place : ℕ) → Type 0
+Refuses d n ops errors choices size number place =
+    mirrorBook (bookOf d n ops errors choices) (sevens size) ≡ record { number = number; place = place; out = sevens size }
 
 -- written with two bytes to spare, and with none; not with one too few
 pub mirror-written :
-    (mirrorBook (bookOf 5 2 gates errors []) (sevens 44) ≡ record { number = 0; place = 42; out = mirror ++ (7 ∷ 7 ∷ []) })
-    × (mirrorBook (bookOf 5 2 gates errors []) (sevens 42) ≡ record { number = 0; place = 42; out = mirror }) × Refuses gates errors [] 41 8 0
+    (mirrorBook (bookOf 7 2 gates errors []) (sevens 48) ≡ record { number = 0; place = 46; out = mirror ++ (7 ∷ 7 ∷ []) })
+    × (mirrorBook (bookOf 7 2 gates errors []) (sevens 46) ≡ record { number = 0; place = 46; out = mirror })
+    × Refuses 7 2 gates errors [] 45 8 0
+    × (mirrorBook (bookOf 3 5 (3 ∷ 4 ∷ 2 ∷ 2 ∷ []) [] []) (sevens 26) ≡ record { number = 0; place = 26; out = other })
 unfolding listed powerOf inverse firstNot tab bytesOf decoded errorAt measurements badOperation goodError badError badChoice readBodies headerFits entryFits badContents readBook bodyOf operationsOf headOf bookOf mirrored bytesOfAll mirrorByAnswer mirrorBook
-mirror-written = (refl, refl, refl)
+mirror-written = (refl, refl, refl, refl)
 
--- Fourier, then both qudits are measured
+-- Fourier, then both qudits are measured; Fourier, then qudit 4 is
 abbrev measuring : List ℕ
 measuring = 0 ∷ 0 ∷ 0 ∷ 0 ∷ 6 ∷ 0 ∷ 0 ∷ 0 ∷ 6 ∷ 1 ∷ 0 ∷ 0 ∷ []
 
+abbrev measured-last : List ℕ
+measured-last = 0 ∷ 0 ∷ 0 ∷ 0 ∷ 6 ∷ 4 ∷ 0 ∷ 0 ∷ []
+
 -- 12 with the operation index of the first measurement, before 8; 6 and 7 before 12
 pub measurement-refused :
-    Refuses measuring errors (0 ∷ 0 ∷ []) 34 12 1 × Refuses measuring errors (0 ∷ 0 ∷ []) 33 12 1 × Refuses measuring (4 ∷ 0 ∷ 0 ∷ 0 ∷ 0 ∷ []) (0 ∷ 0 ∷ []) 34 6 0
-    × Refuses measuring errors (0 ∷ []) 34 7 1
+    Refuses 7 2 measuring errors (0 ∷ 0 ∷ []) 34 12 1
+    × Refuses 7 2 measuring errors (0 ∷ 0 ∷ []) 33 12 1
+    × Refuses 7 2 measuring (4 ∷ 0 ∷ 0 ∷ 0 ∷ 0 ∷ []) (0 ∷ 0 ∷ []) 34 6 0
+    × Refuses 7 2 measuring errors (0 ∷ []) 34 7 1
+    × Refuses 3 5 measured-last [] (2 ∷ []) 30 12 1
 unfolding listed firstNot tab decoded errorAt measurements badOperation goodError badError badChoice readBodies headerFits entryFits badContents readBook bodyOf operationsOf headOf bookOf mirrorByAnswer mirrorBook
-measurement-refused = (refl, refl, refl, refl)
+measurement-refused = (refl, refl, refl, refl, refl)

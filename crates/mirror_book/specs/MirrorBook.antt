@@ -1,19 +1,21 @@
 -- The mirror of a book: what the call returns, and what it leaves in the lent buffer.
+use mathlib.Core.Bool.{Bool, true, false}
 use mathlib.Core.List.{List, [], _∷_, _++_}
 use Prim.Native.Nat.{ℕ, _+_, _*_}
 use lib.Dec.{leb}
 use lib.ListN.{length}
 use Rattle.search.specs.declared.Place.{Place}
 use Rattle.search.specs.declared.Place.the-variants.{At, Nowhere}
-use Rattle.search.specs.Search.{unless}
+use Rattle.search.specs.Search.{unless, firstNot}
 use Rattle.operation.specs.declared.Operation.{Operation}
+use Rattle.circuit.specs.Circuit.{opAt, Kind, gate, measures, kind}
 use Rattle.book_entries.specs.Entry.{bytesOf}
 use Rattle.book_body.specs.Body.{ReaderAnswer, refused, accepted}
 use Rattle.book.specs.Book.{readBook}
 use Rattle.book.specs.Decoded.{opsIn}
 use Rattle.written_book.specs.Written.{bookOf}
 use Rattle.written_book.specs.Writer.{WriteLeft, overwritten}
-use Rattle.mirror_book.specs.Mirrored.{mirrored, firstMeasurement}
+use Rattle.mirror_book.specs.Mirrored.{mirrored}
 
 -- the body of a list of operations: their bytes, one behind the other
 unfoldable pub bytesOfAll : List Operation → List ℕ
@@ -27,6 +29,18 @@ mirrorOf d n s = bookOf d n (bytesOfAll (mirrored d (opsIn s d n))) [] []
 -- It has 22 bytes and 4 per operation.
 abbrev pub mirrorBytes : ℕ → ℕ
 mirrorBytes operations = 22 + 4 * operations
+
+-- a gate, and not a measurement
+abbrev pub isGate : Kind → Bool
+isGate gate = true
+isGate (measures q) = false
+
+abbrev pub gateAt : List Operation → ℕ → Bool
+gateAt ops k = isGate (kind (opAt ops k))
+
+-- the first operation that is no gate
+abbrev pub firstMeasurement : List Operation → Place
+firstMeasurement ops = firstNot (gateAt ops) (length ops)
 
 -- 12 when the book has a measurement, with the operation index of the first
 abbrev pub refuse12 : Place → List ℕ → WriteLeft → WriteLeft

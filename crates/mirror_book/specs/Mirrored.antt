@@ -1,13 +1,10 @@
 -- The mirror of a list of operations.
-use mathlib.Core.Bool.{Bool, true, false}
 use mathlib.Core.List.{List}
 use Prim.Native.Nat.{ℕ, suc, _-_}
 use lib.ListN.{length}
-use Rattle.search.specs.declared.Place.{Place}
-use Rattle.search.specs.Search.{firstNot}
 use Rattle.row.specs.Row.{tab}
 use Rattle.operation.specs.declared.Operation.{Operation}
-use Rattle.circuit.specs.Circuit.{opAt, Kind, gate, measures, kind}
+use Rattle.circuit.specs.Circuit.{opAt}
 use Rattle.mirror_book.specs.Undoing.{undoing}
 
 -- Operations reversed, each turned into its inverse: operation k undoes operation N − 1 − k of N.
@@ -16,14 +13,3 @@ mirrorAt d ops k = undoing d (opAt ops (length ops - suc k))
 
 unfoldable pub mirrored : ℕ → List Operation → List Operation
 mirrored d ops = tab (mirrorAt d ops) (length ops)
-
--- The first operation that is no gate: a measurement.
-abbrev pub isGate : Kind → Bool
-isGate gate = true
-isGate (measures q) = false
-
-abbrev pub gateAt : List Operation → ℕ → Bool
-gateAt ops k = isGate (kind (opAt ops k))
-
-abbrev pub firstMeasurement : List Operation → Place
-firstMeasurement ops = firstNot (gateAt ops) (length ops)

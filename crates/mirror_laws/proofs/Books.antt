@@ -43,11 +43,11 @@ use Rattle.direct_run.specs.DirectBook.{directEnded, directBook}
 use Rattle.book_laws.proofs.Left.{direct-ended}
 use Rattle.book_laws.proofs.Clean.{no-errors}
 use Rattle.book_laws.proofs.WithoutErrors.{empty}
-use Rattle.mirror_book.specs.Mirrored.{mirrored, firstMeasurement}
-use Rattle.mirror_book.specs.MirrorBook.{bytesOfAll, mirrorOf, mirrorBytes, refuse12, mirrorByAnswer, mirrorBook}
+use Rattle.mirror_book.specs.Mirrored.{mirrored}
+use Rattle.mirror_book.specs.MirrorBook.{bytesOfAll, mirrorOf, mirrorBytes, firstMeasurement, refuse12, mirrorByAnswer, mirrorBook}
 use Rattle.mirror_book.proofs.Mirrored.{mirrored-length}
 use Rattle.mirror_book.proofs.Body.{body-length, entry-count, read-again, none-bad, none-counted}
-use Rattle.mirror_laws.specs.Lists.{rowsThereAndBack}
+use Rattle.mirror_laws.specs.Lists.{rowsAfterBoth}
 use Rattle.mirror_laws.specs.Books.{IsMirror, MirrorAccepted, MirrorFilled, FillsMirror, Start, Ends, MirrorReturns, carriedThrough, MirrorCarries}
 use Rattle.mirror_laws.proofs.Lists.{gates-of, none-measured, mirrored-gates, mirrored-allowed, lists-return, lists-carry}
 
@@ -163,7 +163,7 @@ module _ (s : List ℕ) {d n operations errors choices : ℕ} (e : readBook s �
         → Ends (directBook s t results) (directBook mirror (directBook s t results .tableau) results') (withRows t left)
     ends left h =
         rw (there, back)
-        (record { there-ends = refl; back-ends = refl; leaves = rw (same-bytes t rows two, h) })
+        (record { first-ends = refl; second-ends = refl; leaves = rw (same-bytes t rows two, h) })
 
 pub mirror-accepted : MirrorAccepted
 mirror-accepted s d n operations errors choices e none = is-mirror s e none
@@ -196,9 +196,9 @@ fills-mirror s out d n operations errors choices e = rw e (go (firstMeasurement 
 rows-back-clean : (d n : ℕ) → Dimension d → (ops : List Operation) (errors : List WeylError) (choices : List ℕ) → errors ≡ [] → Accepted d n ops errors choices
     → firstMeasurement ops ≡ Nowhere
     → (t results results' : List ℕ) → Valid d n t
-    → rowsThereAndBack d n ops errors choices t results results' ≡ t
+    → rowsAfterBoth d n ops errors choices t results results' ≡ t
 rows-back-clean d n dim ops errors choices e ac none t results results' ok =
-    subst (λ (es : List WeylError). rowsThereAndBack d n ops es choices t results results' ≡ t) (sym e)
+    subst (λ (es : List WeylError). rowsAfterBoth d n ops es choices t results results' ≡ t) (sym e)
     (lists-return d n dim ops choices (without-errors ac) none t results results' ok)
 
 pub mirror-returns : MirrorReturns

@@ -32,7 +32,8 @@ use Rattle.run_laws.proofs.Sound.{run-keeps-valid}
 use Rattle.run_laws.proofs.Clean.{direct-shifted}
 use Rattle.book_laws.proofs.WithoutErrors.{empty}
 use Rattle.mirror_book.specs.Undoing.{undoing}
-use Rattle.mirror_book.specs.Mirrored.{mirrored, isGate, gateAt, firstMeasurement}
+use Rattle.mirror_book.specs.Mirrored.{mirrored}
+use Rattle.mirror_book.specs.MirrorBook.{isGate, gateAt, firstMeasurement}
 use Rattle.mirror_book.proofs.Mirrored.{mirrored-length, mirrored-at}
 use Rattle.mirror_laws.specs.Lists.{ListsAccepted, ListsReturn, ListsCarry}
 use Rattle.mirror_laws.proofs.Undone.{undoing-allowed, rows-undone}

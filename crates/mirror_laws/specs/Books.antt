@@ -14,8 +14,8 @@ use Rattle.written_book.specs.Errorless.{errorless}
 use Rattle.runs.specs.Frame.{noFrame, shiftRows}
 use Rattle.runs.specs.Raised.{finalFrame}
 use Rattle.direct_run.specs.DirectBook.{DirectLeft, directBook}
-use Rattle.mirror_book.specs.Mirrored.{mirrored, firstMeasurement}
-use Rattle.mirror_book.specs.MirrorBook.{mirrorOf, mirrorBytes, mirrorBook}
+use Rattle.mirror_book.specs.Mirrored.{mirrored}
+use Rattle.mirror_book.specs.MirrorBook.{mirrorOf, mirrorBytes, firstMeasurement, mirrorBook}
 
 -- The reader accepts the mirror of a book without measurements, with the same d, n and number of operations, no errors and no choices,
 -- and reads the mirrored operations.
@@ -56,10 +56,10 @@ pub record Start (d n : ℕ) (t : List ℕ) : Type 0 where
   pub qudits : quditsIn t ≡ n
 
 -- The direct run of a book and then of its mirror both end without a refusal, and the second leaves `tableau`.
-pub record Ends (there back : DirectLeft) (tableau : List ℕ) : Type 0 where
-  pub there-ends : there .number ≡ 0
-  pub back-ends : back .number ≡ 0
-  pub leaves : back .tableau ≡ tableau
+pub record Ends (first second : DirectLeft) (tableau : List ℕ) : Type 0 where
+  pub first-ends : first .number ≡ 0
+  pub second-ends : second .number ≡ 0
+  pub leaves : second .tableau ≡ tableau
 
 -- Without errors and measurements: each byte of the tableau is back, those past the needed ones too.
 abbrev pub MirrorReturns : Type 0

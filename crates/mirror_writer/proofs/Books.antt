@@ -19,8 +19,8 @@ use Rattle.book.proofs.Meaning.{accepted-means}
 use Rattle.book.proofs.Handed.{Handed}
 use Rattle.written_book.specs.Written.{bookOf}
 use Rattle.written_book.specs.Writer.{overwritten}
-use Rattle.mirror_book.specs.Mirrored.{mirrored, isGate, gateAt, firstMeasurement}
-use Rattle.mirror_book.specs.MirrorBook.{bytesOfAll, mirrorBytes, mirrorByAnswer, mirrorBook}
+use Rattle.mirror_book.specs.Mirrored.{mirrored}
+use Rattle.mirror_book.specs.MirrorBook.{bytesOfAll, mirrorBytes, isGate, gateAt, firstMeasurement, mirrorByAnswer, mirrorBook}
 use Rattle.mirror_writer.specs.Ready.{Entries}
 
 -- where nothing is measured, every operation is a gate

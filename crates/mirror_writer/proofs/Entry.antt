@@ -97,11 +97,11 @@ module _ (d n : ℕ) (dim : Dimension d) (ops : List ℕ) (j : ℕ) (inside : j 
   own : (code ≡ getD (bytesOf op) 0 0) × (at 1 ≡ getD (bytesOf op) 1 0) × (at 2 ≡ getD (bytesOf op) 2 0) × (at 3 ≡ getD (bytesOf op) 3 0)
   own = at-byte code (at 1) (at 2) (at 3) (own-bytes d n ops j inside h)
 
-  pub entry-asked : Asked d code (at 3)
+  entry-asked : Asked d code (at 3)
   unfolding byte
   entry-asked = rw (own .0, own .3) (asked d n dim op h)
 
-  pub entry-undone : code ∷ at 1 ∷ at 2 ∷ undoneByte d code (at 3) ∷ [] ≡ bytesOf (undoing d op)
+  entry-undone : code ∷ at 1 ∷ at 2 ∷ undoneByte d code (at 3) ∷ [] ≡ bytesOf (undoing d op)
   unfolding byte
   entry-undone = rw (own .0, own .1, own .2, own .3) (undone d n dim op h)
 
@@ -116,7 +116,7 @@ stored (y ∷ y' ∷ z ∷ []) zero a b c x l = absurd (omega arith)
 stored (y ∷ y' ∷ z ∷ z' ∷ v) zero a b c x l = refl
 stored (y ∷ v) (suc i) a b c x l = ap (λ (w : List ℕ). y ∷ w) (stored v i a b c x (omega arith))
 
-pub four-stored : (v : List ℕ) (i a b c x : ℕ) → i + 3 < length v
+four-stored : (v : List ℕ) (i a b c x : ℕ) → i + 3 < length v
     → set (set (set (set v i a) (i + 1) b) (i + 2) c) (i + 3) x ≡ put i 4 (a ∷ b ∷ c ∷ x ∷ []) v
 four-stored v i a b c x l =
     let p : i + 1 ≡ suc i = omega arith in

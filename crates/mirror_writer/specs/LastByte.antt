@@ -8,7 +8,8 @@ use Rattle.modular.specs.Dimension.{inverse}
 use Rattle.row.specs.Row.{tab}
 use Rattle.book_entries.specs.Entry.{timesIn, timesByte}
 
--- By code: so many applications do nothing. A multiplier, code 5, is undone by its factor instead.
+-- By code, 0 to 6: so many applications of the gate do nothing. A multiplier, code 5, is undone by its factor, and a measurement not at
+-- all; what stands for these is not used, and is no less than their last byte can say.
 abbrev pub ordersOf : ℕ → List ℕ
 ordersOf d = 4 ∷ d ∷ d ∷ d ∷ 2 ∷ d ∷ 2 ∷ []
 

@@ -15,7 +15,7 @@ pub record Entries (d n : ℕ) (ops : List ℕ) : Type 0 where
   pub whole : length ops % 4 ≡ 0
   pub operations : AllAllowed d n (operationsOf d n ops)
 
--- the two tables of d
+-- for dimension d, the inverses and the numbers of applications that do nothing
 pub record UndoTables (d : ℕ) (inverses orders : List ℕ) : Type 0 where
   pub inverse-table : inverses ≡ inversesOf d
   pub order-table : orders ≡ ordersOf d

@@ -12,8 +12,8 @@ ghost use Rattle.book.specs.Decoded.{operationsOf};
 ghost use Rattle.operation_codes.specs.Allowed.{AllAllowed};
 ghost use Rattle.written_book.specs.Written.{bookOf};
 ghost use Rattle.written_book.specs.Writer.{overwritten};
-ghost use Rattle.mirror_book.specs.Mirrored.{mirrorAt, mirrored, isGate, firstMeasurement};
-ghost use Rattle.mirror_book.specs.MirrorBook.{bytesOfAll, mirrorBook};
+ghost use Rattle.mirror_book.specs.Mirrored.{mirrorAt, mirrored};
+ghost use Rattle.mirror_book.specs.MirrorBook.{bytesOfAll, isGate, firstMeasurement, mirrorBook};
 ghost use Rattle.mirror_writer.specs.LastByte.{ordersOf, inversesOf, undoneByte};
 ghost use Rattle.mirror_writer.specs.Ready.{Entries, UndoTables};
 use answer::Answer;
@@ -91,7 +91,7 @@ fn times_byte(k: u8) -> u8
     if k == 1 { 0 } else { k }
 }
 
-// The last byte of the entry that undoes one with code b0 and last byte b3. A processor foresees a jump by the code badly, so both
+// The last byte of the entry that undoes one with code b0 and last byte b3. A processor predicts a jump by the code badly, so both
 // look-ups are made, whatever the code is.
 fn undone_byte(inverses: &[u8], orders: &[u8], b0: u8, b3: u8, d: u8) -> u8
     requires { ⌜ UndoTables d (now inverses) (now orders)
@@ -190,13 +190,16 @@ pub fn mirror(book: &[u8], out: &mut [u8]) -> Answer
     let d = numbers.d;
     let n = numbers.n;
     let ops = book::operations(book);
-    if let Place::At(place) = measurement_in(ops, numbers.choices, d, n) {
-        return answer::refused(12, place);
+    if let Place::At(index) = measurement_in(ops, numbers.choices, d, n) {
+        return answer::refused(12, index);
     }
-    let place = 22 + ops.len();
-    if out.len() < place {
+    let size = 22 + ops.len();
+    if out.len() < size {
         return answer::refused(8, 0);
     }
     write_mirror(out, ops, d, n);
-    Answer { number: 0, place }
+    Answer {
+        number: 0,
+        place: size,
+    }
 }

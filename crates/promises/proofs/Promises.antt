@@ -409,7 +409,7 @@ own-errors-unused = trays.own-errors-unused
 pub lists-accepted : ListsAccepted
 lists-accepted = mirrored-lists.lists-accepted
 
--- Over lists: gates without errors, then their mirror, bring every row back.
+-- Over lists: direct runs of gates without errors, and then of their mirror, bring every row back.
 pub lists-return : ListsReturn
 lists-return = mirrored-lists.lists-return
 
@@ -417,10 +417,12 @@ lists-return = mirrored-lists.lists-return
 pub lists-carry : ListsCarry
 lists-carry = mirrored-lists.lists-carry
 
--- For whole books: a book without errors and measurements, then its mirror, bring back each byte of any valid tableau.
+-- For whole books: the direct runs of a book without errors and measurements and then of its mirror bring back each byte of any valid
+-- tableau.
 pub mirror-returns : MirrorReturns
 mirror-returns = mirrored-books.mirror-returns
 
--- For whole books: with errors the tableau differs from the start by one frame, the errors carried through both books.
+-- For whole books: with errors the two direct runs leave a tableau that differs from the start by one frame, the errors carried through
+-- both books.
 pub mirror-carries : MirrorCarries
 mirror-carries = mirrored-books.mirror-carries

@@ -13,7 +13,7 @@ use Rattle.search.specs.Search.{firstNot}
 use Rattle.search.proofs.Search.{none-yet, found}
 use Rattle.book.specs.Decoded.{operationsOf}
 use Rattle.book.proofs.Lists.{op-count}
-use Rattle.mirror_book.specs.Mirrored.{gateAt}
+use Rattle.mirror_book.specs.MirrorBook.{gateAt}
 use Rattle.mirror_writer.proofs.first_measurement.Statement.{statement}
 use Rattle.mirror_writer.proofs.first_measurement.Tie as tie
 

@@ -37,7 +37,7 @@ returns-2 c =
     let s = m .before .before .before .before .before .args in
     let g = handed (now (s .book)) (m .before .before .read .ensures) (m .reading .given .1) in
     rw (c .refused2 .ensures)
-    (measuring-book (now (s .book)) g (o .operations .ensures) (now (s .out)) _ (sym (c .before .before .place .given .1) ∙ c .before .before .before .before .measurement-in .ensures))
+    (measuring-book (now (s .book)) g (o .operations .ensures) (now (s .out)) _ (sym (c .before .before .index .given .1) ∙ c .before .before .before .before .measurement-in .ensures))
 
 returns-3 : tie.Need-returns-3
 returns-3 c =
