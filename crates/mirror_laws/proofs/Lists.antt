@@ -25,17 +25,18 @@ use Rattle.runs.specs.Run.{stepsFrom}
 use Rattle.runs.specs.Direct.{stateOf, errorsOnRows, directKind, directErrors, directStep, directRun}
 use Rattle.runs.specs.Frame.{Frame, noFrame, shiftRows}
 use Rattle.runs.specs.Raised.{finalFrame, raised}
-use Rattle.runs.proofs.Frames.{no-powers, no-frame, final-frame}
+use Rattle.runs.proofs.Frames.{no-powers, no-frame}
 use Rattle.run_laws.proofs.Rows.{shifted-none}
 use Rattle.run_laws.proofs.Books.{without-errors}
 use Rattle.run_laws.proofs.Sound.{run-keeps-valid}
+use Rattle.run_laws.proofs.Fold.{final-frame}
 use Rattle.run_laws.proofs.Clean.{direct-shifted}
 use Rattle.book_laws.proofs.WithoutErrors.{empty}
 use Rattle.mirror_book.specs.Undoing.{undoing}
 use Rattle.mirror_book.specs.Mirrored.{mirrored}
 use Rattle.mirror_book.specs.MirrorBook.{isGate, gateAt, firstMeasurement}
 use Rattle.mirror_book.proofs.Mirrored.{mirrored-length, mirrored-at}
-use Rattle.mirror_laws.specs.Lists.{ListsAccepted, ListsReturn, ListsCarry}
+use Rattle.mirror_laws.specs.Lists.{ListsAccepted, rowsAfterBoth, ListsReturn, ListsCarry}
 use Rattle.mirror_laws.proofs.Undone.{undoing-allowed, rows-undone}
 
 -- every operation is a gate
@@ -164,6 +165,8 @@ lists-carry d n dim ops errors choices ac none t results results' ok =
     (directRun d n ops [] choices (stateOf t results) .rows)
     results'
     (run-keeps-valid d n dim ops [] choices clean (stateOf t results) ok) in
+    let both-runs : rowsAfterBoth d n ops errors choices t results results' ≡ shiftRows d n (finalFrame d n (mirrored d ops) [] F) t =
     ap (back-from d ops n results') there
     ∙ back
-    ∙ ap (shiftRows d n (finalFrame d n (mirrored d ops) [] F)) (lists-return d n dim ops choices clean none t results results' ok)
+    ∙ ap (shiftRows d n (finalFrame d n (mirrored d ops) [] F)) (lists-return d n dim ops choices clean none t results results' ok) in
+    both-runs

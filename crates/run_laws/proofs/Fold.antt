@@ -1,6 +1,7 @@
 -- At every step the direct run's rows are the frame run's rows, shifted by the frame. So both end alike.
 -- Assumes nothing.
 use mathlib.Core.Path.{_≡_, refl, ap, _∙_}
+use mathlib.Core.Bool.{true}
 use mathlib.Core.List.{List}
 use Prim.Native.Nat.{ℕ, zero, suc, _+_, _%_, _≤_, _<_}
 use native.Mathlib.Nat.{le-refl}
@@ -10,6 +11,7 @@ use Rattle.modular.specs.Dimension.{Dimension}
 use Rattle.row.specs.Row.{xOf}
 use Rattle.operation.specs.declared.Operation.{Operation}
 use Rattle.operation.specs.declared.WeylError.{WeylError}
+use Rattle.operation.specs.Operation.{allowed}
 use Rattle.circuit.specs.Circuit.{opAt, Kind, gate, measures, kind, measured, Accepted}
 use Rattle.validity.specs.Validity.{Valid}
 use Rattle.validity.proofs.Exactly.{valid-tableau}
@@ -20,7 +22,7 @@ use Rattle.measurement_laws.proofs.Free.{collapse-keeps-valid}
 use Rattle.runs.specs.Run.{stepsFrom}
 use Rattle.runs.specs.Direct.{State, stateOf, directLook, directKind, directErrors, directStep, directRun}
 use Rattle.runs.specs.Frame.{Frame, FrameState, FrameEnd, shiftRows, frameLook, frameKind, frameErrors, frameStep, frameSteps, frameLeaves, frameRunFrom}
-use Rattle.runs.specs.Raised.{carryBy, frameBefore, carriedFrame, raised}
+use Rattle.runs.specs.Raised.{carryBy, frameBefore, carriedFrame, finalFrame, raised}
 use Rattle.runs.proofs.Frames.{gate-frame, errors-on-frame}
 use Rattle.runs.proofs.Shifts.{before, shifts-at, raised-at}
 use Rattle.run_laws.specs.Carrying.{RunsAgreeFrom}
@@ -94,6 +96,23 @@ module _ (d n : ℕ) (dim : Dimension d) (ops : List Operation) (errors : List W
   unfolding frameLeaves directErrors frameErrors
   end-same shifts frame {F} (shifted-state t results f ok) =
       rw (shifted-errors d n dim errors (ac .errors-in-order .each) (length ops) F t f (valid-tableau d n t ok) (length errors) (le-refl (length errors)))
+
+-- A frame carried over allowed operations, and to the end, stays a frame.
+module _ (d n : ℕ) (low : 0 < d) (ops : List Operation) (errors : List WeylError) (good : (k : ℕ) → k < length ops → allowed d n (opAt ops k) ≡ true) (F : List ℕ)
+    (f : Frame d n F) where
+  carried-frame : (count : ℕ) → count ≤ length ops → Frame d n (carriedFrame d n ops errors 0 F count)
+  unfolding carriedFrame carryBy frameBefore
+  carried-frame zero l = f
+  carried-frame (suc m) l =
+      by (kind (opAt ops (0 + m))) (errors-on-frame d n low errors (0 + m) _ (carried-frame m (omega arith)) (length errors))
+    where
+      by : {G : List ℕ} (x : Kind) → Frame d n G → Frame d n (carryBy d n ops errors (0 + m) x G)
+      by gate g = gate-frame d n low (opAt ops (0 + m)) _ (good (0 + m) (omega arith)) g
+      by (measures q) g = g
+
+  pub final-frame : Frame d n (finalFrame d n ops errors F)
+  unfolding frameBefore
+  final-frame = errors-on-frame d n low errors (length ops) _ (carried-frame (length ops) (le-refl (length ops))) (length errors)
 
 -- The raised choices are so.
 raises : {d n : ℕ} {ops : List Operation} {errors : List WeylError} {choices : List ℕ} → (dim : Dimension d) (ac : Accepted d n ops errors choices) (F : List ℕ) (i : ℕ)

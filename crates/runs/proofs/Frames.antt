@@ -3,8 +3,8 @@
 use mathlib.Core.Path.{_≡_, refl, _∙_}
 use mathlib.Core.Bool.{Bool, true, false, cond}
 use mathlib.Core.List.{List}
-use Prim.Native.Nat.{ℕ, zero, suc, _+_, _*_, _<_, _≤_}
-use native.Mathlib.Nat.{mod-lt, le-refl}
+use Prim.Native.Nat.{ℕ, zero, suc, _+_, _*_, _<_}
+use native.Mathlib.Nat.{mod-lt}
 use native.Mathlib.Omega.{arith}
 use lib.Dec.{eqb}
 use lib.ListN.{length, getD, replicate, length-set, length-replicate}
@@ -20,9 +20,8 @@ use Rattle.operation.specs.Error.{errorFrame}
 use Rattle.operation.proofs.Stores.{row-phase}
 use Rattle.operation.proofs.Gate.{gate-powers-length, gate-powers}
 use Rattle.operation.proofs.Error.{error-frame-length, error-powers}
-use Rattle.circuit.specs.Circuit.{opAt, errAt, Kind, gate, measures, kind}
+use Rattle.circuit.specs.Circuit.{errAt}
 use Rattle.runs.specs.Frame.{Frame, noFrame, errorsOnFrame, shiftRow}
-use Rattle.runs.specs.Raised.{carryBy, frameBefore, carriedFrame, finalFrame}
 
 -- the first frame has no powers; bytes past a list's end count as 0
 zeros : (m s : ℕ) → getD (replicate {A = ℕ} m 0) s 0 ≡ 0
@@ -61,22 +60,6 @@ module _ (d n : ℕ) (low : 0 < d) where
       by : (b : Bool) → Frame d n G → Frame d n (cond b (errorFrame d n (errAt errors j) G) G)
       by true g = error-frame (errAt errors j) G g
       by false g = g
-
-  -- carried over allowed operations, and to the end
-  module _ (ops : List Operation) (errors : List WeylError) (good : (k : ℕ) → k < length ops → allowed d n (opAt ops k) ≡ true) (F : List ℕ) (f : Frame d n F) where
-    carried-frame : (count : ℕ) → count ≤ length ops → Frame d n (carriedFrame d n ops errors 0 F count)
-    unfolding carriedFrame carryBy frameBefore
-    carried-frame zero l = f
-    carried-frame (suc m) l =
-        by (kind (opAt ops (0 + m))) (errors-on-frame errors (0 + m) _ (carried-frame m (omega arith)) (length errors))
-      where
-        by : {G : List ℕ} (x : Kind) → Frame d n G → Frame d n (carryBy d n ops errors (0 + m) x G)
-        by gate g = gate-frame (opAt ops (0 + m)) _ (good (0 + m) (omega arith)) g
-        by (measures q) g = g
-
-    pub final-frame : Frame d n (finalFrame d n ops errors F)
-    unfolding frameBefore
-    final-frame = errors-on-frame errors (length ops) _ (carried-frame (length ops) (le-refl (length ops))) (length errors)
 
 module _ (d n : ℕ) (F : List ℕ) where
   pub shift-keeps : Keeps (2 * n + 1) (every (shiftRow d n F))
