@@ -78,13 +78,24 @@ mirror =
     ∷ 2 ∷ 0 ∷ 1 ∷ 0
     ∷ 0 ∷ 0 ∷ 0 ∷ 3 ∷ []
 
--- CZ of qudits 4 and 2 twice, of five qutrits: undone by CZ once
-abbrev other : List ℕ
-other =
+-- five qutrits: CZ of 4 and 2 twice, phase gate on 3, SUM from 1 to 0 twice, multiplier by 2 on 2
+abbrev qutrit-gates : List ℕ
+qutrit-gates =
+    3 ∷ 4 ∷ 2 ∷ 2
+    ∷ 1 ∷ 3 ∷ 0 ∷ 0
+    ∷ 2 ∷ 1 ∷ 0 ∷ 2
+    ∷ 5 ∷ 2 ∷ 0 ∷ 2 ∷ []
+
+-- multiplier by 2, SUM once, phase gate twice, CZ once
+abbrev qutrit-mirror : List ℕ
+qutrit-mirror =
     81 ∷ 3 ∷ 5 ∷ 3
-    ∷ 1 ∷ 0 ∷ 22 ∷ 0 ∷ 4 ∷ 0
-    ∷ 2 ∷ 0 ∷ 26 ∷ 0 ∷ 0 ∷ 0
-    ∷ 3 ∷ 0 ∷ 26 ∷ 0 ∷ 0 ∷ 0
+    ∷ 1 ∷ 0 ∷ 22 ∷ 0 ∷ 16 ∷ 0
+    ∷ 2 ∷ 0 ∷ 38 ∷ 0 ∷ 0 ∷ 0
+    ∷ 3 ∷ 0 ∷ 38 ∷ 0 ∷ 0 ∷ 0
+    ∷ 5 ∷ 2 ∷ 0 ∷ 2
+    ∷ 2 ∷ 1 ∷ 0 ∷ 0
+    ∷ 1 ∷ 3 ∷ 0 ∷ 2
     ∷ 3 ∷ 4 ∷ 2 ∷ 0 ∷ []
 
 -- a buffer of so many sevens
@@ -101,7 +112,7 @@ pub mirror-written :
     (mirrorBook (bookOf 7 2 gates errors []) (sevens 48) ≡ record { number = 0; place = 46; out = mirror ++ (7 ∷ 7 ∷ []) })
     × (mirrorBook (bookOf 7 2 gates errors []) (sevens 46) ≡ record { number = 0; place = 46; out = mirror })
     × Refuses 7 2 gates errors [] 45 8 0
-    × (mirrorBook (bookOf 3 5 (3 ∷ 4 ∷ 2 ∷ 2 ∷ []) [] []) (sevens 26) ≡ record { number = 0; place = 26; out = other })
+    × (mirrorBook (bookOf 3 5 qutrit-gates [] []) (sevens 38) ≡ record { number = 0; place = 38; out = qutrit-mirror })
 unfolding listed powerOf inverse firstNot tab bytesOf decoded errorAt measurements badOperation goodError badError badChoice readBodies headerFits entryFits badContents readBook bodyOf operationsOf headOf bookOf mirrored bytesOfAll mirrorByAnswer mirrorBook
 mirror-written = (refl, refl, refl, refl)
 
