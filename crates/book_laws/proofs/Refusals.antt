@@ -75,27 +75,28 @@ tray-listed s tray t out =
     tray-cases s tray t out (λ left. among (left .number) trayNumbers ≡ true)
     refl refl refl (λ k. refl) (λ k. refl) (λ k. refl) (λ k. refl) refl refl refl (λ d n o h. refl)
 
--- What holds of the refusals 12 and 8 and of the book that is written holds of what the mirror of an accepted book leaves.
-accepted-mirrored : (s out : List ℕ) (P : WriteLeft → Type 0) (d n operations errors choices : ℕ)
+-- What holds of the refusals 12 and 8, and of the book that is written where nothing is measured, holds of what the mirror of an accepted
+-- book leaves.
+pub accepted-mirrored : (s out : List ℕ) (P : WriteLeft → Type 0) (d n operations errors choices : ℕ)
     → ((k : ℕ) → P (record { number = 12; place = k; out = out }))
     → P (record { number = 8; place = 0; out = out })
-    → P (record { number = 0; place = mirrorBytes operations; out = overwritten (mirrorOf d n s) out })
+    → (firstMeasurement (opsIn s d n) ≡ Nowhere → P (record { number = 0; place = mirrorBytes operations; out = overwritten (mirrorOf d n s) out }))
     → P (mirrorByAnswer s out (accepted d n operations errors choices))
 unfolding mirrorByAnswer
-accepted-mirrored s out P d n operations errors choices twelve eight written = go (firstMeasurement (opsIn s d n))
+accepted-mirrored s out P d n operations errors choices twelve eight written = go (firstMeasurement (opsIn s d n)) refl
   where
-    go : (p : Place)
+    go : (p : Place) → firstMeasurement (opsIn s d n) ≡ p
         → P (refuse12 p out
         (unless (leb (mirrorBytes operations) (length out)) (record { number = 8; place = 0; out = out })
         (record { number = 0; place = mirrorBytes operations; out = overwritten (mirrorOf d n s) out })))
-    go (At k) = twelve k
-    go Nowhere = unless-cases P (leb (mirrorBytes operations) (length out)) (λ _. eight) (λ _. written)
+    go (At k) none = twelve k
+    go Nowhere none = unless-cases P (leb (mirrorBytes operations) (length out)) (λ _. eight) (λ _. written none)
 
 mirror-listed : (s out : List ℕ) → among (mirrorBook s out .number) mirrorNumbers ≡ true
 unfolding mirrorBook mirrorByAnswer
 mirror-listed s out =
     read-cases (λ x. P (mirrorByAnswer s out x)) refl refl refl (λ k. refl) (λ k. refl) (λ k. refl) (λ k. refl)
-    (λ d n o e c. accepted-mirrored s out P d n o e c (λ k. refl) refl refl)
+    (λ d n o e c. accepted-mirrored s out P d n o e c (λ k. refl) refl (λ none. refl))
     s
   where
     P : WriteLeft → Type 0
@@ -185,4 +186,4 @@ mirror-unchanged s out = go (readBook s)
     go : (x : ReaderAnswer) → P (mirrorByAnswer s out x)
     go (refused number place) = λ h. refl
     go (accepted d n operations errors choices) =
-        accepted-mirrored s out P d n operations errors choices (λ k h. refl) (λ h. refl) (λ h. absurd (h refl))
+        accepted-mirrored s out P d n operations errors choices (λ k h. refl) (λ h. refl) (λ none h. absurd (h refl))

@@ -66,10 +66,10 @@ code-at ops k l =
     let q : 4 * k ≡ 4 * k + 0 = omega arith in
     ap (λ (i : ℕ). getD (bytesOfAll ops) i 0) q ∙ byte-at ops k 0 l (omega arith)
 
-module _ (d n : ℕ) (ops : List Operation) (good : (k : ℕ) → k < length ops → allowed d n (opAt ops k) ≡ true) where
-  pub entry-count : length (bytesOfAll ops) / 4 ≡ length ops
-  entry-count = omega (arith, body-length ops)
+pub entry-count : (ops : List Operation) → length (bytesOfAll ops) / 4 ≡ length ops
+entry-count ops = omega (arith, body-length ops)
 
+module _ (d n : ℕ) (ops : List Operation) (good : (k : ℕ) → k < length ops → allowed d n (opAt ops k) ≡ true) where
   entry-read : (k : ℕ) → k < length ops → operationAt d n (bytesOfAll ops) k ≡ Good (opAt ops k)
   entry-read k l =
       rw (code-at ops k l, byte-at ops k 1 l (omega arith), byte-at ops k 2 l (omega arith), byte-at ops k 3 l (omega arith))
@@ -77,16 +77,16 @@ module _ (d n : ℕ) (ops : List Operation) (good : (k : ℕ) → k < length ops
 
   pub read-again : operationsOf d n (bytesOfAll ops) ≡ ops
   read-again =
-      ext-getD (Measure 0) _ _ (op-count d n (bytesOfAll ops) ∙ entry-count)
+      ext-getD (Measure 0) _ _ (op-count d n (bytesOfAll ops) ∙ entry-count ops)
       (λ k l.
-      let i : k < length ops = omega (arith, op-count d n (bytesOfAll ops), entry-count) in
-      op-at d n (bytesOfAll ops) k (rw entry-count i) ∙ ap operationIn (entry-read k i))
+      let i : k < length ops = omega (arith, op-count d n (bytesOfAll ops), entry-count ops) in
+      op-at d n (bytesOfAll ops) k (rw (entry-count ops) i) ∙ ap operationIn (entry-read k i))
 
   pub none-bad : badOperation d n (bytesOfAll ops) ≡ Nowhere
   unfolding badOperation
   none-bad =
       none-fails (goodOperation d n (bytesOfAll ops)) (length (bytesOfAll ops) / 4)
-      (λ k l. ap isGood (entry-read k (rw entry-count at l)))
+      (λ k l. ap isGood (entry-read k (rw (entry-count ops) at l)))
 
 gate-code : (op : Operation) → kind op ≡ gate → eqb (getD (bytesOf op) 0 0) 6 ≡ false
 unfolding bytesOf

@@ -6,16 +6,13 @@ use mathlib.Core.List.{List, [], _∷_}
 use Prim.Native.Nat.{ℕ, _%_, _/_, _<_, _≤_}
 use native.Mathlib.Nat.{le-refl}
 use native.Mathlib.Omega.{arith}
-use lib.Dec.{leb}
 use lib.ListN.{length, drop, take-append-drop}
 use lib.Seq.{take-at, drop-at}
 use borrow.Author.Tests.{eq-eqb, le-leb}
 use Rattle.modular.specs.Dimension.{Dimension}
 use Rattle.modular.proofs.Listed.{dimension}
-use Rattle.search.specs.declared.Place.{Place}
-use Rattle.search.specs.declared.Place.the-variants.{At, Nowhere}
-use Rattle.search.specs.Search.{unless, firstNot}
-use Rattle.search.proofs.Search.{unless-cases}
+use Rattle.search.specs.declared.Place.the-variants.{Nowhere}
+use Rattle.search.specs.Search.{firstNot}
 use Rattle.operation.specs.declared.Operation.{Operation}
 use Rattle.operation.specs.declared.WeylError.{WeylError}
 use Rattle.operation.specs.Operation.{allowed}
@@ -32,7 +29,6 @@ use Rattle.book.proofs.Contents.{whole-operations}
 use Rattle.book.proofs.Lists.{op-count}
 use Rattle.book.proofs.Meaning.{accepted-means}
 use Rattle.written_book.specs.Written.{readParts, HasBodies}
-use Rattle.written_book.specs.Writer.{WriteLeft, overwritten}
 use Rattle.written_book.proofs.Read.{book-length, reads-written, bodies-back}
 use Rattle.runs.specs.Direct.{stateOf, directRun}
 use Rattle.runs.specs.Frame.{noFrame, shiftRows}
@@ -40,11 +36,12 @@ use Rattle.runs.specs.Raised.{finalFrame}
 use Rattle.run_laws.proofs.Books.{without-errors}
 use Rattle.run_laws.proofs.Sound.{run-keeps-valid}
 use Rattle.direct_run.specs.DirectBook.{directEnded, directBook}
+use Rattle.book_laws.proofs.Refusals.{accepted-mirrored}
 use Rattle.book_laws.proofs.Left.{direct-ended}
 use Rattle.book_laws.proofs.Clean.{no-errors}
 use Rattle.book_laws.proofs.WithoutErrors.{empty}
 use Rattle.mirror_book.specs.Mirrored.{mirrored}
-use Rattle.mirror_book.specs.MirrorBook.{bytesOfAll, mirrorOf, mirrorBytes, firstMeasurement, refuse12, mirrorByAnswer, mirrorBook}
+use Rattle.mirror_book.specs.MirrorBook.{bytesOfAll, mirrorOf, mirrorBytes, firstMeasurement, mirrorBook}
 use Rattle.mirror_book.proofs.Mirrored.{mirrored-length}
 use Rattle.mirror_book.proofs.Body.{body-length, entry-count, read-again, none-bad, none-counted}
 use Rattle.mirror_laws.specs.Lists.{rowsAfterBoth}
@@ -84,7 +81,7 @@ module _ (s : List ℕ) {d n operations errors choices : ℕ} (e : readBook s �
   accepts : readBook mirror ≡ accepted d n operations 0 0
   unfolding readParts readBodies badError badChoice firstNot
   accepts =
-      let o : length body / 4 ≡ operations = entry-count d n (mirrored d ops) good ∙ count in
+      let o : length body / 4 ≡ operations = entry-count (mirrored d ops) ∙ count in
       let m : operations ≤ length (mirrored d ops) = omega (arith, count) in
       rw (
         reads-written d n body [] [],
@@ -169,28 +166,20 @@ pub mirror-accepted : MirrorAccepted
 mirror-accepted s d n operations errors choices e none = is-mirror s e none
 
 pub fills-mirror : FillsMirror
-unfolding mirrorBook mirrorByAnswer
-fills-mirror s out d n operations errors choices e = rw e (go (firstMeasurement (opsIn s d n)) refl)
-  where
-    P : WriteLeft → Type 0
-    P left = left .number ≡ 0 → MirrorFilled d n operations s out left
-
-    filled : firstMeasurement (opsIn s d n) ≡ Nowhere → P (record { number = 0; place = mirrorBytes operations; out = overwritten (mirrorOf d n s) out })
-    filled none h =
-        let size = is-mirror s e none .size in
-        record {
-          gates = none;
-          count = refl;
-          book = take-at (mirrorOf d n s) (drop (length (mirrorOf d n s)) out) (mirrorBytes operations) size;
-          kept = rw (← size) (drop-at (mirrorOf d n s) (drop (length (mirrorOf d n s)) out) (length (mirrorOf d n s)) refl);
-        }
-
-    go : (p : Place) → firstMeasurement (opsIn s d n) ≡ p
-        → P (refuse12 p out
-        (unless (leb (mirrorBytes operations) (length out)) (record { number = 8; place = 0; out = out })
-        (record { number = 0; place = mirrorBytes operations; out = overwritten (mirrorOf d n s) out })))
-    go (At k) none = λ h. absurd (omega arith)
-    go Nowhere none = unless-cases P (leb (mirrorBytes operations) (length out)) (λ _ h. absurd (omega arith)) (λ _. filled none)
+unfolding mirrorBook
+fills-mirror s out d n operations errors choices e =
+    rw e
+    (accepted-mirrored s out (λ left. left .number ≡ 0 → MirrorFilled d n operations s out left) d n operations errors choices
+    (λ k h. absurd (omega arith))
+    (λ h. absurd (omega arith))
+    (λ none h.
+    let size = is-mirror s e none .size in
+    record {
+      gates = none;
+      count = refl;
+      book = take-at (mirrorOf d n s) (drop (length (mirrorOf d n s)) out) (mirrorBytes operations) size;
+      kept = rw (← size) (drop-at (mirrorOf d n s) (drop (length (mirrorOf d n s)) out) (length (mirrorOf d n s)) refl);
+    }))
 
 -- the rows of a book that has no errors
 rows-back-clean : (d n : ℕ) → Dimension d → (ops : List Operation) (errors : List WeylError) (choices : List ℕ) → errors ≡ [] → Accepted d n ops errors choices

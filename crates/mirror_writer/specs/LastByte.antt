@@ -8,8 +8,8 @@ use Rattle.modular.specs.Dimension.{inverse}
 use Rattle.row.specs.Row.{tab}
 use Rattle.book_entries.specs.Entry.{timesIn, timesByte}
 
--- By code, 0 to 6: so many applications of the gate do nothing. A multiplier, code 5, is undone by its factor, and a measurement not at
--- all; what stands for these is not used, and is no less than their last byte can say.
+-- By code, 0 to 6: so many applications of the gate do nothing. A multiplier, code 5, is undone by its factor, and its number, which is no
+-- less than a factor, is not used. With 2 for a measurement, code 6, its last byte stays 0, as `undoing` leaves it as it is.
 abbrev pub ordersOf : ℕ → List ℕ
 ordersOf d = 4 ∷ d ∷ d ∷ d ∷ 2 ∷ d ∷ 2 ∷ []
 

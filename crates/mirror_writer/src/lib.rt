@@ -92,7 +92,7 @@ fn times_byte(k: u8) -> u8
 }
 
 // The last byte of the entry that undoes one with code b0 and last byte b3. A processor predicts a jump by the code badly, so both
-// look-ups are made, whatever the code is.
+// look-ups are made, whatever the code is. Here d only says which tables they are, and below n which entries.
 fn undone_byte(inverses: &[u8], orders: &[u8], b0: u8, b3: u8, d: u8) -> u8
     requires { ⌜ UndoTables d (now inverses) (now orders)
         × (b0 ≤ 6)
