@@ -1,8 +1,12 @@
 //! Shot books: operations, errors and choices as Rust values, and their bytes.
 //!
-//! This is plain convenience. It refuses nothing: whatever is put into a [`Book`] comes out of
-//! [`Book::to_bytes`], and the run that reads those bytes says what is wrong with them. For a book
-//! that is checked before it is run, hand [`Book::bodies`] to [`write_book`](crate::write_book).
+//! A [`Book`] under construction refuses nothing: whatever is put into it comes out of
+//! [`Book::to_bytes`], and the run that reads those bytes says what is wrong with them.
+//! [`Book::write`] has the proved writer check it before, [`Book::from_bytes`] takes bytes that a run
+//! accepts, and a book's [text form](crate::text) is read by `parse` and written by `to_string`.
+
+use crate::library;
+use crate::{Refusal, book_len, write_book};
 
 /// The dimensions that a book may have.
 pub const DIMENSIONS: [u8; 10] = [3, 5, 7, 11, 13, 17, 19, 23, 29, 31];
@@ -116,6 +120,49 @@ impl Operation {
             Operation::Measure { q } => [6, q, 0, 0],
         }
     }
+
+    /// The operation that has these four bytes, if there is one. Whether a book may have it is not
+    /// tested.
+    pub fn from_bytes(bytes: [u8; 4]) -> Option<Operation> {
+        Some(match bytes {
+            [0, q, 0, k] => Operation::Fourier {
+                q,
+                times: times_of(k),
+            },
+            [1, q, 0, k] => Operation::PhaseGate {
+                q,
+                times: times_of(k),
+            },
+            [2, c, t, k] => Operation::Sum {
+                c,
+                t,
+                times: times_of(k),
+            },
+            [3, c, t, k] => Operation::Cz {
+                c,
+                t,
+                times: times_of(k),
+            },
+            [4, c, t, 0] => Operation::Swap { c, t },
+            [5, q, 0, u] => Operation::Multiplier { q, u },
+            [6, q, 0, 0] => Operation::Measure { q },
+            _ => return None,
+        })
+    }
+
+    /// The one or two qudits that it acts on, in the order of its bytes.
+    pub fn qudits(self) -> impl Iterator<Item = u8> {
+        let (first, second) = match self {
+            Operation::Fourier { q, .. }
+            | Operation::PhaseGate { q, .. }
+            | Operation::Multiplier { q, .. }
+            | Operation::Measure { q } => (q, None),
+            Operation::Sum { c, t, .. } | Operation::Cz { c, t, .. } | Operation::Swap { c, t } => {
+                (c, Some(t))
+            }
+        };
+        [first].into_iter().chain(second)
+    }
 }
 
 /// How a number of applications is written. 0 would be read as once, so that none is written as 1,
@@ -126,6 +173,11 @@ fn times_byte(times: u8) -> u8 {
         1 => 0,
         more => more,
     }
+}
+
+/// The number of applications that is written so.
+fn times_of(byte: u8) -> u8 {
+    times_byte(byte) // it exchanges 0 and 1, and so undoes itself
 }
 
 /// The Weyl error X^p Z^s on one qudit.
@@ -147,6 +199,12 @@ impl WeylError {
     pub fn to_bytes(self) -> [u8; 5] {
         let [low, high] = self.place.to_le_bytes();
         [low, high, self.qudit, self.p, self.s]
+    }
+
+    /// The error that has these five bytes. Whether a book may have it is not tested.
+    pub fn from_bytes([low, high, qudit, p, s]: [u8; 5]) -> WeylError {
+        let place = u16::from_le_bytes([low, high]);
+        WeylError { place, qudit, p, s }
     }
 }
 
@@ -189,6 +247,33 @@ impl Book {
             errors: Vec::new(),
             choices: Vec::new(),
         }
+    }
+
+    /// The book that has these bytes, if a run accepts them.
+    ///
+    /// The proved reader tests the bytes, and the proved writer has to make them of what was read.
+    ///
+    /// ```
+    /// use cagvost::book::{Book, Operation};
+    ///
+    /// let mut book = Book::new(3, 2);
+    /// book.operation(Operation::Fourier { q: 1, times: 3 }).error(1, 2, 0).measure(1, 2);
+    /// let bytes = book.to_bytes();
+    /// assert_eq!(Book::from_bytes(&bytes)?, book);
+    /// let refusal = Book::from_bytes(&bytes[1..]).unwrap_err();
+    /// assert_eq!(refusal.number(), 1);
+    /// # Ok::<(), cagvost::Refusal>(())
+    /// ```
+    ///
+    /// # Errors
+    ///
+    /// [`Refusal::BookHeader`] to [`Refusal::Choice`], as a run has them.
+    pub fn from_bytes(bytes: &[u8]) -> Result<Book, Refusal> {
+        accepted(bytes)?;
+        let book = decoded(bytes);
+        // No two books have the same bodies, so this shows that nothing was read wrongly.
+        assert!(book.write().as_deref() == Ok(bytes), "read as {book:?}");
+        Ok(book)
     }
 
     /// Adds an operation. A measurement added in this way still needs its choice.
@@ -281,8 +366,31 @@ impl Book {
         ]
     }
 
-    /// The bytes of the book, unchecked. [`write_book`](crate::write_book) writes the same bytes, and
-    /// only where a run accepts them.
+    /// The bytes of the book by the proved writer: those of [`Book::to_bytes`], if a run accepts them.
+    ///
+    /// ```
+    /// use cagvost::Refusal;
+    /// use cagvost::book::Book;
+    ///
+    /// let mut book = Book::new(3, 2);
+    /// assert_eq!(book.measure(1, 2).write()?, book.to_bytes());
+    /// assert_eq!(book.measure(2, 0).write(), Err(Refusal::Operation { index: 1 }));
+    /// # Ok::<(), Refusal>(())
+    /// ```
+    ///
+    /// # Errors
+    ///
+    /// As [`write_book`] has them, but for [`Refusal::ShortBuffer`].
+    pub fn write(&self) -> Result<Vec<u8>, Refusal> {
+        let (d, n) = (self.d.into(), self.n.into());
+        let [operations, errors, choices] = &self.bodies();
+        let mut bytes = vec![0; book_len(operations, errors, choices)];
+        write_book(d, n, operations, errors, choices, &mut bytes)?;
+        Ok(bytes)
+    }
+
+    /// The bytes of the book, unchecked. [`Book::write`] gives the same bytes, and only where a run
+    /// accepts them.
     ///
     /// A body that is too long for the two bytes of its length is written with the length 65,535,
     /// which no reader accepts, rather than with one cut to two bytes.
@@ -298,6 +406,36 @@ impl Book {
         }
         bytes.extend(bodies.concat());
         bytes
+    }
+}
+
+/// Whether a run accepts this book, by the proved reader.
+///
+/// A run reads its book first and then comes to its buffers. These are empty and too short for every
+/// n, so that it says 8 of an accepted book, and there is nothing that it could write.
+pub(crate) fn accepted(book: &[u8]) -> Result<(), Refusal> {
+    let answer = library::direct_run(book, &mut [], &mut []);
+    match Refusal::listed(answer.number, answer.place) {
+        Refusal::ShortBuffer => Ok(()),
+        refusal => Err(refusal),
+    }
+}
+
+/// What the bytes of an accepted book say.
+fn decoded(bytes: &[u8]) -> Book {
+    let number = |i: usize| usize::from(u16::from_le_bytes([bytes[i], bytes[i + 1]]));
+    let body = |i: usize| {
+        let (start, length) = (number(6 * i + 6), number(6 * i + 8));
+        &bytes[start..start + length]
+    };
+    let (operations, errors) = (body(0).as_chunks().0, body(1).as_chunks().0);
+    let operation = |&entry| Operation::from_bytes(entry).expect("an entry of an accepted book");
+    Book {
+        d: bytes[1],
+        n: bytes[2],
+        operations: operations.iter().map(operation).collect(),
+        errors: errors.iter().copied().map(WeylError::from_bytes).collect(),
+        choices: body(2).to_vec(),
     }
 }
 

@@ -184,13 +184,16 @@ mod frame;
 mod library;
 mod mirror;
 mod refusal;
+pub mod text;
 mod tray;
+mod words;
 mod write;
 
 pub use frame::{FrameRun, Verdict, frame_len, frame_run, shifts_len};
 pub use mirror::{mirror, mirror_len};
 pub use refusal::Refusal;
 pub use tray::{MAX_SHOTS, Shot, Shots, Tray, TrayCounts, shots_len, tray_run};
+pub use words::TextError;
 pub use write::{book_len, write_book};
 
 use library::Answer;

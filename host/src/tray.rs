@@ -1,6 +1,6 @@
 //! The tray run: many error lists over one circuit.
 
-use crate::book::{WeylError, narrow};
+use crate::book::{WeylError, accepted, narrow};
 use crate::library::{self, TrayAnswer};
 use crate::{Refusal, Verdict};
 
@@ -161,19 +161,10 @@ pub fn tray_run(
             clean: place,
             shifted,
         }),
-        6 if !is_refused_by_6(book) => Err(Refusal::TrayShot { shot: place }),
+        // Both runs read the book first, by one reader: of an accepted one it is the tray's 6.
+        6 if accepted(book).is_ok() => Err(Refusal::TrayShot { shot: place }),
         _ => Err(Refusal::listed(number, place)),
     }
-}
-
-/// Whether a run refuses this book by 6.
-///
-/// After a tray run has answered 6, this tells whose error is bad, which the number does not. Both
-/// runs first read the book, by one reader. If it was the book's 6, the frame run says 6 as well. If
-/// it was the tray's, the book has passed all tests, and the frame run comes to its buffers: these
-/// are empty and too short for every n, so that it says 8 and there is nothing that it could write.
-fn is_refused_by_6(book: &[u8]) -> bool {
-    library::frame_run(book, &mut [], &mut [], &mut [], &mut []).number == 6
 }
 
 /// What a tray run has filled, shot by shot.
