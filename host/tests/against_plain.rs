@@ -1,6 +1,6 @@
 //! Drawn books from drawn tableaus: every byte as the plain reference has it.
 
-mod common;
+use crate::common;
 
 use cagvost::book::{Book, DIMENSIONS, MAX_ERRORS, MAX_OPERATIONS, Operation};
 use common::plain::{self, Row};

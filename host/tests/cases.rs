@@ -1,6 +1,6 @@
 //! The specification's cases, through the calls.
 
-mod common;
+use crate::common;
 
 use cagvost::Refusal;
 use cagvost::book::{Book, DIMENSIONS, Operation};

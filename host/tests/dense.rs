@@ -2,7 +2,7 @@
 //! leads from the state without errors to the one with errors, and the verdict says whether these
 //! are the same. A circuit and then its mirror give back the state vector.
 
-mod common;
+use crate::common;
 
 use cagvost::Verdict;
 use cagvost::book::{Book, DIMENSIONS, Operation, WeylError};

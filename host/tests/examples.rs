@@ -1,8 +1,8 @@
 //! The stored books in `examples/` at the top of the repository: each listing as the plain reference
 //! makes it. Two of the books are too large to be written by hand and are drawn here;
-//! `cargo test --test examples -- --ignored` writes them again, with their listings.
+//! `cargo test --test suite examples -- --ignored` writes them again, with their listings.
 
-mod common;
+use crate::common;
 
 use cagvost::book::{Book, MAX_CHOICES, MAX_ERRORS, MAX_OPERATIONS, MAX_QUDITS, Operation};
 use common::frames::Buffers;

@@ -1,7 +1,7 @@
 //! The frame run: the specification's cases, its refusals, every byte as the plain reference has
 //! it, demand 3, and the verdict by the stabilizer sets.
 
-mod common;
+use crate::common;
 
 use cagvost::book::{Book, DIMENSIONS, MAX_ERRORS, MAX_OPERATIONS, Operation, WeylError};
 use common::frames::{Buffers, carry_both};

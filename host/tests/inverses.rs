@@ -5,7 +5,7 @@
 //! The plain reference searches for an inverse. What is said here beside it, of the bytes that the
 //! library leaves, is said without one, but for the factor that undoes a multiplier.
 
-mod common;
+use crate::common;
 
 use cagvost::book::{Book, DIMENSIONS, MAX_QUDITS, Operation};
 use common::frames::{Buffers, carry_both};

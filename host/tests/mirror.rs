@@ -5,7 +5,7 @@
 //! the mirror must stay as they were. `run_both`, `carry_both` and `write_both` do the same for the
 //! other calls.
 
-mod common;
+use crate::common;
 
 use cagvost::book::{Book, DIMENSIONS, MAX_ERRORS, MAX_OPERATIONS, MAX_QUDITS};
 use cagvost::book::{Operation, WeylError};

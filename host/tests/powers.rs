@@ -4,7 +4,7 @@
 //! byte with the plain reference, which applies a power gate by gate, and what a refusal must leave
 //! with what was there before.
 
-mod common;
+use crate::common;
 
 use cagvost::Tray;
 use cagvost::book::{Book, DIMENSIONS, MAX_QUDITS, Operation, WeylError};

@@ -3,7 +3,7 @@
 //! `run_both`, `carry_both`, `layer_both` and `test_both` compare number, place and every lent byte
 //! with the plain reference, and every byte with what it was before a refusal.
 
-mod common;
+use crate::common;
 
 use cagvost::book::{Book, DIMENSIONS, MAX_CHOICES, MAX_ERRORS, MAX_OPERATIONS};
 use cagvost::book::{Operation, WeylError};

@@ -6,7 +6,7 @@
 //! with the plain reference, and what must not be written with what was there before. Which number it
 //! must be is said here once more.
 
-mod common;
+use crate::common;
 
 use cagvost::Tray;
 use cagvost::book::{Book, DIMENSIONS, Operation};

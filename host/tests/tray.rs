@@ -4,7 +4,7 @@
 //! `tray_both` compares every number and byte with the plain reference, each shot with a separate
 //! frame run of the package, and what must not be written with what was there before.
 
-mod common;
+use crate::common;
 
 use cagvost::book::{Book, DIMENSIONS, MAX_ERRORS, MAX_OPERATIONS, Operation, WeylError};
 use cagvost::{MAX_SHOTS, Refusal, Shots, Tray, TrayCounts, Verdict};

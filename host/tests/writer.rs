@@ -5,7 +5,7 @@
 //! first and lets the plain reader judge them; bodies, the buffer of a refusal and the bytes past
 //! the book must stay as they were.
 
-mod common;
+use crate::common;
 
 use cagvost::book::{Book, DIMENSIONS, MAX_CHOICES, MAX_ERRORS, MAX_OPERATIONS, Operation};
 use common::plain::{self, Returned};

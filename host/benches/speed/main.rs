@@ -9,6 +9,7 @@
 
 mod books;
 mod calls;
+#[allow(dead_code)] // not all of it is timed
 #[path = "../../tests/common/mod.rs"]
 mod common;
 mod lanes;

@@ -1,5 +1,4 @@
 //! What the tests share: drawn circuits, books and tableaus, and two references.
-#![allow(dead_code)] // each test file uses its own part
 
 pub mod dense;
 pub mod frames;
@@ -145,25 +144,8 @@ pub fn every_gate(d: u8, qudits: &[u8]) -> Vec<Operation> {
 
 /// The operations of an accepted book.
 pub fn operations_of(book: &[u8]) -> Vec<Operation> {
-    let [operations, ..] = plain::read_contents(book).expect("an accepted book");
-    operations.chunks(4).map(operation_of).collect()
-}
-
-/// The operation that has these bytes. Once is written as 0, and as 1 it has no operation.
-fn operation_of(entry: &[u8]) -> Operation {
-    let (code, q, t, last) = (entry[0], entry[1], entry[2], entry[3]);
-    let (c, times) = (q, if last == 0 { 1 } else { last });
-    let operation = match code {
-        0 => Operation::Fourier { q, times },
-        1 => Operation::PhaseGate { q, times },
-        2 => Operation::Sum { c, t, times },
-        3 => Operation::Cz { c, t, times },
-        4 => Operation::Swap { c, t },
-        5 => Operation::Multiplier { q, u: last },
-        _ => Operation::Measure { q },
-    };
-    assert_eq!(operation.to_bytes(), entry, "no operation has these bytes");
-    operation
+    let book = Book::from_bytes(book).expect("an accepted book");
+    book.operations().to_vec()
 }
 
 // ---- Drawing

@@ -1,0 +1,16 @@
+//! Every test that calls the library, as one program: what they share is compiled once.
+
+mod against_plain;
+mod cases;
+mod common;
+mod dense;
+mod examples;
+mod frame;
+mod inverses;
+mod mirror;
+mod powers;
+mod refusals;
+mod saved;
+mod text;
+mod tray;
+mod writer;
