@@ -2,6 +2,7 @@
 
 use crate::library::{self, Answer, FrameAnswer};
 use crate::{Refusal, counted};
+use std::fmt;
 
 /// Whether the errors changed the final state.
 ///
@@ -46,6 +47,16 @@ impl Verdict {
             1 => Some(Verdict::Shifted),
             _ => None,
         }
+    }
+}
+
+/// Writes the program's word, `clean` or `shifted`.
+impl fmt::Display for Verdict {
+    fn fmt(&self, f: &mut fmt::Formatter<'_>) -> fmt::Result {
+        f.pad(match self {
+            Verdict::Clean => "clean",
+            Verdict::Shifted => "shifted",
+        })
     }
 }
 

@@ -2,16 +2,162 @@
 //!
 //! This package is the host side of Cagvost, a simulator written and proved in Rattle. It keeps a
 //! full tableau with phases, for 1 to 64 qudits whose dimension is one of [`book::DIMENSIONS`], the
-//! odd primes up to 31. Every function here takes whatever it is handed: it does its work, or it
-//! returns a [`Refusal`] and leaves every buffer as it was. No check is owed before a call, and
-//! after a run that does not refuse the tableau passes the test.
+//! odd primes up to 31.
 //!
-//! # Running a book
+//! # A first program
 //!
-//! A *shot book* holds a circuit, the errors that strike it and one choice for each measurement;
-//! [`book::Book`] builds one, and [`write_book`] makes one of bytes. A run starts from a tableau
-//! that you lend, usually the zero tableau (all qudits at level 0) laid by [`layer`], and leaves the
-//! final one in its place.
+//! ```
+//! use cagvost::{Book, Simulation};
+//!
+//! // Two qutrits are entangled; an X error strikes the second before both are measured.
+//! let book: Book = "
+//!     qudits 2 dimension 3
+//!     fourier 0
+//!     sum 0 1
+//!     error 1 x
+//!     measure 0 choose 2
+//!     measure 1
+//! "
+//! .parse()?;
+//! print!("{}", book.drawing());
+//!
+//! let end = Simulation::new(&book)?.direct();
+//! for (i, outcome) in end.outcomes.iter().enumerate() {
+//!     println!("M{i}: {outcome}");
+//! }
+//! for stabilizer in end.tableau.stabilizers() {
+//!     println!("{stabilizer}");
+//! }
+//! # let outcomes = end.outcomes.iter().enumerate().map(|(i, o)| format!("M{i}: {o}\n"));
+//! # let rows = end.tableau.stabilizers().map(|row| format!("{row}\n"));
+//! # assert_eq!(
+//! #     book.drawing().to_string() + &outcomes.chain(rows).collect::<String>(),
+//! #     "q0 ─F─●─M0────\n\
+//! #      q1 ───⊕─!X─M1─\n\
+//! #      M0: free 2\n\
+//! #      M1: certain 0\n\
+//! #      ω Z0\n\
+//! #      ω^2 Z0^2 Z1\n"
+//! # );
+//! # Ok::<(), Box<dyn std::error::Error>>(())
+//! ```
+//!
+//! It prints the circuit, what the measurements gave and the stabilizers of the final state:
+//!
+//! ```text
+//! q0 ─F─●─M0────
+//! q1 ───⊕─!X─M1─
+//! M0: free 2
+//! M1: certain 0
+//! ω Z0
+//! ω^2 Z0^2 Z1
+//! ```
+//!
+//! The first outcome was free: every level was as likely as any other. Nothing is drawn at random
+//! here, and the circuit says which one is taken, level 2. Then the second was certain. Without the
+//! error it would have been 2 as well.
+//!
+//! - [`text`] has the lines of a circuit. [`Book`] also builds one out of Rust values.
+//! - [`operations`] has, for each operation, what it does to levels, to X and Z and to rows.
+//! - [`drawing`] explains the symbols of a drawing.
+//! - [`Simulation`] runs a circuit from level 0 or from any [`Tableau`], with its errors applied where
+//!   they strike or carried to the end as one [`Frame`].
+//! - [`tray_run`] runs one circuit with many lists of errors.
+//!
+//! # Carrying the errors
+//!
+//! [`Simulation::frame`], and [`frame_run`] on bytes, runs the same book without touching the rows by
+//! errors: it carries them as one frame, and shifts the results and, at the end, the rows' phases by
+//! it. It ends with the bytes of a direct run whose choices are raised by the frame's X power on the
+//! measured qudit.
+//!
+//! Its [`Verdict`] says whether the errors changed the final state: it is clean exactly if the run
+//! without errors ends with the same stabilizer set. It says nothing of the results, which an error
+//! may have changed on the way. Destabilizer shifts are written but not judged.
+//!
+//! # Powers of a gate
+//!
+//! Fourier, phase gate, SUM and CZ may be applied several times by one entry of a book: Fourier up
+//! to 3 times, the others up to d − 1 times. A run leaves every byte as if the applications were
+//! written singly. No error can strike between them: its place is before or after the whole entry.
+//!
+//! ```
+//! use cagvost::Simulation;
+//!
+//! // Two qudits of dimension 31: an X error takes the first to level 1, and SUM adds this to the
+//! // second, thirty times.
+//! let run = |sums: &str| {
+//!     let text = format!("qudits 2 dimension 31\nerror 0 x\n{sums}measure 1");
+//!     Ok::<_, Box<dyn std::error::Error>>(Simulation::new(&text.parse()?)?.direct())
+//! };
+//! let power = run("sum 0 1 ^30\n")?;
+//! let singly = run(&"sum 0 1\n".repeat(30))?;
+//! assert_eq!(power.outcomes[0].to_string(), "certain 30");
+//! assert_eq!(power, singly);
+//! # Ok::<(), Box<dyn std::error::Error>>(())
+//! ```
+//!
+//! In the bytes of an entry the last one is the number of applications. 0 means once, and 1 is
+//! refused, so that each power is written in one way; [`book::Operation::to_bytes`] has the table.
+//!
+//! # Mirror circuits
+//!
+//! A circuit and then its reverse bring every state back, so that what does not come back shows the
+//! errors on the way. [`mirror()`] makes the *mirror* of a book: its operations in reversed order,
+//! each turned into its inverse, without errors and choices. Fourier applied k times becomes Fourier
+//! applied 4 − k times, phase gate, SUM and CZ applied k times become the same applied d − k times,
+//! a swap stays, and a multiplier gets the inverse factor. A measurement has no inverse: a book that
+//! has one is refused, by [`Refusal::Measurement`].
+//!
+//! A run of a book without errors and then one of its mirror leave every byte of a valid tableau as
+//! it was. If errors strike in the first run, the phase of each row is shifted in the end by the
+//! pairing of one frame with that row, and nothing else is changed: it is the frame of the book's
+//! [`frame_run`], carried on through the mirror's operations.
+//!
+//! # A whole tray of shots
+//!
+//! A *tray* holds the error lists of up to 4,096 shots; [`Tray`] builds one. [`tray_run`] runs the
+//! circuit of one book with each of them, always from the same start, and gives for each shot the
+//! verdict and the results that a separate [`frame_run`] would end with, and the number of clean and
+//! of shifted shots. It runs the circuit once and carries the errors of many shots side by side: a
+//! full tray on many qudits is done hundreds of times faster than by separate runs.
+//!
+//! ```
+//! use cagvost::book::{Book, WeylError};
+//! use cagvost::{Shots, Tray};
+//!
+//! // One qutrit at level 0 is measured, in one shot for each power of X that strikes it before.
+//! let mut book = Book::new(3, 1);
+//! book.measure(0, 0);
+//! let mut tray = Tray::new();
+//! for p in 0..3 {
+//!     tray.shot(&[WeylError { place: 0, qudit: 0, p, s: 0 }]);
+//! }
+//! let mut tableau = [0; cagvost::tableau_len(1)];
+//! let mut out = [0; cagvost::shots_len(3, 1)];
+//!
+//! cagvost::layer(&mut tableau, 3, 1)?;
+//! let counts = cagvost::tray_run(&book.to_bytes(), &tray.to_bytes(), &tableau, &mut out)?;
+//! assert_eq!((counts.clean, counts.shifted), (1, 2));
+//! let shots = Shots::new(&out, counts.shots(), book.measurements());
+//! assert!(shots.iter().map(|shot| shot.results[0]).eq(0..3));
+//! # Ok::<(), cagvost::Refusal>(())
+//! ```
+//!
+//! The bytes of a tray are a table of contents, which is the number of shots and for each the number
+//! of bytes of its errors, all in two bytes with the low one first, and then the errors of all shots
+//! in order, as a book has them. `examples/tray.rs` in this package is a whole program.
+//!
+//! # Bytes
+//!
+//! All of this rests on calls that take bytes, and software that has them needs nothing else. Each
+//! takes whatever it is handed: it does its work, or it returns a [`Refusal`] and leaves every buffer
+//! as it was. No check is owed before a call, and after a run that does not refuse the tableau passes
+//! the test.
+//!
+//! A *shot book* holds a circuit, the errors that strike it and one choice for each measurement. A
+//! run starts from a tableau that you lend, usually the zero tableau (all qudits at level 0) laid by
+//! [`layer`], and leaves the final one in its place.
 //!
 //! ```
 //! // Two qutrits: Fourier on 0, SUM from 0 to 1, an X error on 1, then both are measured.
@@ -48,106 +194,12 @@
 //! # Ok::<(), cagvost::Refusal>(())
 //! ```
 //!
-//! # Powers of a gate
-//!
-//! Fourier, phase gate, SUM and CZ may be applied several times by one entry of a book: Fourier up
-//! to 3 times, the others up to d − 1 times. A run leaves every byte as if the applications were
-//! written singly. No error can strike between them: its place is before or after the whole entry.
-//!
-//! ```
-//! use cagvost::book::{Book, Operation};
-//!
-//! // Two qudits of dimension 31: an X error takes the first to level 1, and SUM adds this to the
-//! // second, thirty times.
-//! let start = Book::new(31, 2).error(0, 1, 0).clone();
-//! let (c, t) = (0, 1);
-//! let mut power = start.clone();
-//! power.operation(Operation::Sum { c, t, times: 30 });
-//! let mut singly = start;
-//! for _ in 0..30 {
-//!     singly.operation(Operation::Sum { c, t, times: 1 });
-//! }
-//!
-//! let run = |book: &mut Book| {
-//!     let mut tableau = [0; cagvost::tableau_len(2)];
-//!     let mut results = [0; cagvost::results_len(1)];
-//!     cagvost::layer(&mut tableau, 31, 2)?;
-//!     cagvost::direct_run(&book.measure(1, 0).to_bytes(), &mut tableau, &mut results)?;
-//!     Ok::<_, cagvost::Refusal>((tableau, results))
-//! };
-//! let (tableau, results) = run(&mut power)?;
-//! assert_eq!(results, [30, 0]); // certain
-//! assert_eq!((tableau, results), run(&mut singly)?);
-//! # Ok::<(), cagvost::Refusal>(())
-//! ```
-//!
-//! In the bytes of an entry the last one is the number of applications. 0 means once, and 1 is
-//! refused, so that each power is written in one way; [`book::Operation::to_bytes`] has the table.
-//!
-//! # Carrying the errors
-//!
-//! [`frame_run`] runs the same book without touching the rows by errors: it carries them as one
-//! frame, and shifts the results and, at the end, the rows' phases by it. It ends with the bytes of
-//! a [`direct_run`] whose choices are raised by the frame's X power on the measured qudit.
-//!
-//! Its [`Verdict`] says whether the errors changed the final state: it is clean exactly if the run
-//! without errors ends with the same stabilizer set. It says nothing of the results, which an error
-//! may have changed on the way. Destabilizer shifts are written but not judged.
-//!
 //! # Writing a book
 //!
 //! Software that holds operations, errors and choices as bytes has [`write_book`] lay the table of
 //! contents: it takes these three bodies with d and n, and writes the only book that a run accepts
 //! for them. What a run would refuse in that book it refuses itself, with the same number and place,
 //! so that a book that it wrote is never refused by 1 to 7.
-//!
-//! # A whole tray of shots
-//!
-//! A *tray* holds the error lists of up to 4,096 shots; [`Tray`] builds one. [`tray_run`] runs the
-//! circuit of one book with each of them, always from the same start, and gives for each shot the
-//! verdict and the results that a separate [`frame_run`] would end with, and the number of clean and
-//! of shifted shots. It runs the circuit once and carries the errors of many shots side by side: a
-//! full tray on many qudits is done hundreds of times faster than by separate runs.
-//!
-//! ```
-//! use cagvost::book::{Book, WeylError};
-//! use cagvost::{Shots, Tray};
-//!
-//! // One qutrit at level 0 is measured, in one shot for each power of X that strikes it before.
-//! let mut book = Book::new(3, 1);
-//! book.measure(0, 0);
-//! let mut tray = Tray::new();
-//! for p in 0..3 {
-//!     tray.shot(&[WeylError { place: 0, qudit: 0, p, s: 0 }]);
-//! }
-//! let mut tableau = [0; cagvost::tableau_len(1)];
-//! let mut out = [0; cagvost::shots_len(3, 1)];
-//!
-//! cagvost::layer(&mut tableau, 3, 1)?;
-//! let counts = cagvost::tray_run(&book.to_bytes(), &tray.to_bytes(), &tableau, &mut out)?;
-//! assert_eq!((counts.clean, counts.shifted), (1, 2));
-//! let shots = Shots::new(&out, counts.shots(), book.measurements());
-//! assert!(shots.iter().map(|shot| shot.results[0]).eq(0..3));
-//! # Ok::<(), cagvost::Refusal>(())
-//! ```
-//!
-//! The bytes of a tray are a table of contents, which is the number of shots and for each the number
-//! of bytes of its errors, all in two bytes with the low one first, and then the errors of all shots
-//! in order, as a book has them. `examples/tray.rs` in this package is a whole program.
-//!
-//! # Mirror circuits
-//!
-//! A circuit and then its reverse bring every state back, so that what does not come back shows the
-//! errors on the way. [`mirror()`] makes the *mirror* of a book: its operations in reversed order,
-//! each turned into its inverse, without errors and choices. Fourier applied k times becomes Fourier
-//! applied 4 − k times, phase gate, SUM and CZ applied k times become the same applied d − k times,
-//! a swap stays, and a multiplier gets the inverse factor. A measurement has no inverse: a book that
-//! has one is refused, by [`Refusal::Measurement`].
-//!
-//! A run of a book without errors and then one of its mirror leave every byte of a valid tableau as
-//! it was. If errors strike in the first run, the phase of each row is shifted in the end by the
-//! pairing of one frame with that row, and nothing else is changed: it is the frame of the book's
-//! [`frame_run`], carried on through the mirror's operations.
 //!
 //! # Buffers
 //!
@@ -179,19 +231,28 @@
 #![deny(unsafe_code)]
 
 pub mod book;
+pub mod drawing;
 mod frame;
 #[allow(unsafe_code)]
 mod library;
 mod mirror;
+#[doc = include_str!("../../docs/OPERATIONS.md")]
+pub mod operations {}
 mod refusal;
+pub mod simulation;
+mod tableau;
 pub mod text;
 mod tray;
 mod words;
 mod write;
 
+pub use book::{Book, Operation, WeylError};
+pub use drawing::Drawing;
 pub use frame::{FrameRun, Verdict, frame_len, frame_run, shifts_len};
 pub use mirror::{mirror, mirror_len};
 pub use refusal::Refusal;
+pub use simulation::{DirectEnd, FrameEnd, Mark, Outcome, Simulation};
+pub use tableau::{Frame, Row, Tableau};
 pub use tray::{MAX_SHOTS, Shot, Shots, Tray, TrayCounts, shots_len, tray_run};
 pub use words::TextError;
 pub use write::{book_len, write_book};

@@ -25,6 +25,7 @@ use words::Word;
 const MAP: &str = "docs/SPECIFICATION-MAP.md";
 const ARCHITECTURE: &str = "docs/ARCHITECTURE.md";
 const README: &str = "README.md";
+const OPERATIONS: &str = "docs/OPERATIONS.md";
 
 /// Words of README that are commands, the environment's, the language's or the host's.
 const OTHERS: [&str; 7] = [
@@ -85,10 +86,10 @@ fn every_must_fail_edit_stands_in_the_map() {
     assert!(missing.is_empty(), "not in {MAP}: {}", missing.join(", "));
 }
 
-/// The architecture names fewer things, and says less of where they are: anywhere, or as a file.
+/// These documents name fewer things, and say less of where they are: anywhere, or as a file.
 #[test]
-fn every_name_in_the_architecture_and_the_readme_exists() {
-    for path in [ARCHITECTURE, README] {
+fn every_name_in_architecture_readme_and_operations_exists() {
+    for path in [ARCHITECTURE, README, OPERATIONS] {
         let missing = missing_names(&files::text(path));
         assert!(missing.is_empty(), "{path}: {missing:?}");
     }
