@@ -148,6 +148,12 @@
 //! of bytes of its errors, all in two bytes with the low one first, and then the errors of all shots
 //! in order, as a book has them. `examples/tray.rs` in this package is a whole program.
 //!
+//! # The share of unharmed shots
+//!
+//! [`share`] draws the errors of many shots by an error model, runs them in trays on as many threads
+//! as are asked for, and gives the share of unharmed shots with its confidence interval. Drawing is
+//! no part of what is proved: what was drawn is run by [`tray_run`].
+//!
 //! # Bytes
 //!
 //! All of this rests on calls that take bytes, and software that has them needs nothing else. Each
@@ -239,6 +245,7 @@ mod mirror;
 #[doc = include_str!("../../docs/OPERATIONS.md")]
 pub mod operations {}
 mod refusal;
+pub mod share;
 pub mod simulation;
 mod tableau;
 pub mod text;

@@ -53,9 +53,23 @@ impl Tray {
 
     /// Adds a shot whose errors are bytes as a book has them, five for each.
     pub fn body(&mut self, body: &[u8]) -> &mut Tray {
-        self.lengths.push(body.len());
-        self.bodies.extend_from_slice(body);
+        self.append(|bodies| bodies.extend_from_slice(body));
         self
+    }
+
+    /// Adds a shot whose bytes the function appends, and returns how many these are.
+    pub(crate) fn append(&mut self, append: impl FnOnce(&mut Vec<u8>)) -> usize {
+        let start = self.bodies.len();
+        append(&mut self.bodies);
+        let length = self.bodies.len() - start;
+        self.lengths.push(length);
+        length
+    }
+
+    /// Takes out all shots, and keeps their room for others.
+    pub fn clear(&mut self) {
+        self.lengths.clear();
+        self.bodies.clear();
     }
 
     /// How many shots there are.
@@ -68,14 +82,21 @@ impl Tray {
     /// A number of shots, or of bytes in one of them, that is too large for its two bytes is written
     /// as 65,535, which no reader accepts, rather than cut to two bytes.
     pub fn to_bytes(&self) -> Vec<u8> {
+        let mut bytes = Vec::new();
+        self.write_to(&mut bytes);
+        bytes
+    }
+
+    /// Writes these bytes in place of what a buffer holds.
+    pub(crate) fn write_to(&self, bytes: &mut Vec<u8>) {
         let table = 2 + 2 * self.lengths.len();
-        let mut bytes = Vec::with_capacity(table + self.bodies.len());
+        bytes.clear();
+        bytes.reserve(table + self.bodies.len());
         bytes.extend(narrow(self.lengths.len()).to_le_bytes());
         for &length in &self.lengths {
             bytes.extend(narrow(length).to_le_bytes());
         }
         bytes.extend_from_slice(&self.bodies);
-        bytes
     }
 }
 

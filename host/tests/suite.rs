@@ -12,6 +12,7 @@ mod mirror;
 mod powers;
 mod refusals;
 mod saved;
+mod share;
 mod states;
 mod text;
 mod tray;

@@ -1,6 +1,7 @@
 //! Times the package's calls beside the same calls in Rust: `cargo bench` in this package,
 //! `cargo bench -- quick` for few sizes and no trays, `cargo bench -- trays` for the tray runs alone,
-//! or `cargo bench -- mirrors` for the mirrors alone.
+//! `cargo bench -- mirrors` for the mirrors alone, or `cargo bench -- share` for drawing errors and
+//! running them.
 //!
 //! The columns are the package, (b) the fastest safe Rust that we could write (`tuned.rs`, and
 //! `lanes.rs` for trays), for runs the same with even phases, which shows what it costs to keep the
@@ -14,6 +15,7 @@ mod calls;
 mod common;
 mod lanes;
 mod powers;
+mod shares;
 mod timing;
 mod trays;
 mod tuned;
@@ -62,8 +64,8 @@ fn main() {
         return;
     }
     let begin = Instant::now();
-    let [quick, trays, mirrors] = ["quick", "trays", "mirrors"].map(is_given);
-    let all = !quick && !trays && !mirrors;
+    let [quick, trays, mirrors, share] = ["quick", "trays", "mirrors", "share"].map(is_given);
+    let all = !quick && !trays && !mirrors && !share;
     preface();
     if quick || all {
         runs(if quick { &FEW } else { &ALL });
@@ -78,6 +80,9 @@ fn main() {
     }
     if trays || all {
         trays::trays();
+    }
+    if share || all {
+        shares::shares();
     }
     small_stack();
     println!("\nAll of it took {:.0} s.", begin.elapsed().as_secs_f64());
