@@ -1,5 +1,5 @@
 #!/bin/sh
-# Tests of ./simulate and of the host's build script, for when the program is built. The last line is 'N passed, M failed'.
+# Tests of ./simulate, ./cagvost and the host's build script, for when the program is built. The last line is 'N passed, M failed'.
 CDPATH= cd -- "$(dirname -- "$0")/.." || exit 1
 top=$PWD
 . commands/room.sh
@@ -199,6 +199,52 @@ should "CAGVOST_LIB with a file that is no archive is an error" host_refuses
 echo '!<arch>' > "$room/files/libcagvost.a"
 check_host
 should "CAGVOST_LIB with an archive is taken" host_takes "$(cd "$room/files" && pwd -P)"
+
+# ./cagvost: what it hands on, and what it says where it cannot build. host/tests/command.rs tests the command itself.
+cagvost=./cagvost
+cagvost() {
+    TMPDIR="$room/files" "$cagvost" "$@" > "$room/listing" 2> "$room/said"
+    status=$?
+}
+rm -f "$room/files/libcagvost.a"
+cagvost
+should "no command shows the usage" did_not_run '^usage: cagvost COMMAND'
+cagvost run examples/paper.book
+should "a run is listed as the program lists it" ended 0 examples/paper.txt
+cagvost run - < examples/refused_5.book
+should "a refused book has status 1 here too" ended 1 examples/refused_5.txt
+cd "$room/books" || exit 1
+cagvost=clone/cagvost
+export CDPATH="$room/elsewhere"
+cagvost run 'a b.book'
+should "the command finds a book from another folder" ended 0 "$top/examples/paper.txt"
+unset CDPATH
+cd "$top" || exit 1
+
+# A folder with the commands alone: no toolchain, then one that proves a crate and fails at the next, then no cargo.
+cp cagvost "$room/clone"
+rm -rf "$room/clone/.lock"
+cagvost=$room/clone/cagvost
+printf '#!/bin/sh\nexit 3\n' > "$room/bare/cargo"
+chmod +x "$room/bare/cargo"
+PATH=$room/bare
+cagvost help
+PATH=$path
+should "a missing rt is named by the command" did_not_run_in_a_line 'no rt here'
+PATH=$room/fails:$room/bare:$PATH
+cagvost help
+should "a failed proof ends the command with status 2 and what rt said" did_not_run '^rt: inverse NOT PROVED'
+should "the command names each crate that is proved" says 'search proved (3 s)'
+mkdir -p "$room/clone/target/staticlib"
+: > "$room/clone/target/staticlib/libcagvost.a"
+cagvost help
+should "a command that is not built does not run" did_not_run_in_a_line 'cargo did not build'
+rm "$room/bare/cargo"
+PATH=$room/bare
+cagvost help
+PATH=$path
+should "a missing cargo is named" did_not_run_in_a_line 'no cargo here'
+should "no temporary file is left by the command" [ -z "$(ls "$room/files")" ]
 
 echo "$passed passed, $failed failed"
 [ "$failed" = 0 ]

@@ -197,10 +197,11 @@ fn error(line: &mut Line) -> Result<(u8, u8, u8), TextError> {
     let p = if has_x { power(line)? } else { 0 };
     let has_z = line.take("z");
     let s = if has_z { power(line)? } else { 0 };
-    match has_x || has_z {
-        true => Ok((qudit, p, s)),
-        false => Err(line.unexpected("x, z or i")),
+    if !has_x && !has_z {
+        return Err(line.unexpected("x, z or i"));
     }
+    line.end("the end of the line (x stands before z)")?;
+    Ok((qudit, p, s))
 }
 
 /// Writes [the text form](crate::text). Of an accepted book it is read back as the same book.

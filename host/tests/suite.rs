@@ -2,6 +2,7 @@
 
 mod against_plain;
 mod cases;
+mod command;
 mod common;
 mod dense;
 mod drawing;

@@ -1,0 +1,607 @@
+//! The command `cagvost`: what it prints, what it writes and with which status it ends.
+
+use crate::common;
+
+use cagvost::book::Book;
+use common::PAPER_BOOK;
+use std::fs::{self, File};
+use std::io::Write;
+use std::path::{Path, PathBuf};
+use std::process::{Command, Stdio};
+
+const GHZ: &str = "examples/ghz.circuit";
+const MODEL: &str = "examples/chip.model";
+
+const PAPER: &str =
+    "qudits 2 dimension 3\nfourier 0\nsum 0 1\nerror 1 x\nmeasure 0 choose 2\nmeasure 1\n";
+
+fn top() -> PathBuf {
+    Path::new(env!("CARGO_MANIFEST_DIR")).join("..")
+}
+
+/// How a call ended.
+struct Ended {
+    status: i32,
+    out: Vec<u8>,
+    said: String,
+}
+
+impl Ended {
+    fn text(&self) -> &str {
+        std::str::from_utf8(&self.out).expect("text")
+    }
+
+    /// It is done, without a word on standard error.
+    fn done(self) -> String {
+        assert_eq!(
+            (self.status, self.said.as_str()),
+            (0, ""),
+            "{}",
+            self.text()
+        );
+        self.text().to_string()
+    }
+
+    /// It ended so, printed nothing, and said these words.
+    fn failed(&self, status: i32, words: &str) {
+        assert_eq!((self.status, self.text()), (status, ""), "{}", self.said);
+        assert!(self.said.starts_with("cagvost: "), "{}", self.said);
+        assert!(self.said.contains(words), "{} has no '{words}'", self.said);
+    }
+}
+
+/// Runs the command at the top of the repository, with these bytes on standard input.
+fn call_with(input: &[u8], words: &[&str]) -> Ended {
+    let mut child = Command::new(env!("CARGO_BIN_EXE_cagvost"))
+        .args(words)
+        .current_dir(top())
+        .stdin(Stdio::piped())
+        .stdout(Stdio::piped())
+        .stderr(Stdio::piped())
+        .spawn()
+        .expect("the command");
+    // It may end without reading all.
+    _ = child.stdin.take().expect("a pipe").write_all(input);
+    let output = child.wait_with_output().expect("its output");
+    Ended {
+        status: output.status.code().expect("a status"),
+        out: output.stdout,
+        said: String::from_utf8(output.stderr).expect("text"),
+    }
+}
+
+fn call(line: &str) -> Ended {
+    call_with(b"", &Vec::from_iter(line.split_whitespace()))
+}
+
+/// A folder of a test's own.
+fn folder(name: &str) -> PathBuf {
+    let folder = Path::new(env!("CARGO_TARGET_TMPDIR")).join(name);
+    _ = fs::remove_dir_all(&folder);
+    fs::create_dir_all(&folder).expect("a folder");
+    folder
+}
+
+fn is_empty(folder: &Path) -> bool {
+    fs::read_dir(folder).expect("a folder").next().is_none()
+}
+
+// ---- run
+
+/// The stored books with their listings.
+fn examples() -> Vec<(PathBuf, String)> {
+    let mut found = Vec::new();
+    for entry in fs::read_dir(top().join("examples")).expect("the examples") {
+        let path = entry.expect("an example").path();
+        if path
+            .extension()
+            .is_some_and(|extension| extension == "book")
+        {
+            let listing = fs::read_to_string(path.with_extension("txt")).expect("a listing");
+            found.push((path, listing));
+        }
+    }
+    assert!(found.len() > 15);
+    found
+}
+
+#[test]
+fn it_lists_the_stored_books_as_the_program_does() {
+    for (path, listing) in examples() {
+        let name = path.to_str().expect("a plain name");
+        let ended = call_with(b"", &["run", name]);
+        assert_eq!(ended.text(), listing, "{name}");
+        let refused = listing.starts_with("refused");
+        assert_eq!(ended.status, i32::from(refused), "{name}");
+        assert_eq!(ended.said.is_empty(), !refused, "{}", ended.said);
+    }
+}
+
+#[test]
+fn a_text_runs_as_its_bytes_do() {
+    let by_text = call_with(PAPER.as_bytes(), &["run", "-"]).done();
+    assert_eq!(by_text, call_with(&PAPER_BOOK, &["run", "-"]).done());
+    assert_eq!(
+        by_text,
+        fs::read_to_string(top().join("examples/paper.txt")).unwrap()
+    );
+}
+
+#[test]
+fn the_direct_run_and_the_state() {
+    let run = |words: &[&str]| call_with(PAPER.as_bytes(), words).done();
+    let head = "d 3 n 2 operations 4 errors 1\nm 0 qudit 0 free 2\nm 1 qudit 1 certain 0\n";
+    assert_eq!(run(&["run", "--direct", "-"]), head);
+    // Stabilizer 1 is that of the crate's first example: X^0 Z^2 on qudit 0, Z on qudit 1, phase 2.
+    let state = "stabilizer 0 ω Z0\nstabilizer 1 ω^2 Z0^2 Z1\n";
+    assert_eq!(
+        run(&["run", "-", "--direct", "--state"]),
+        format!("{head}{state}")
+    );
+    let frame = run(&["run", "-"]);
+    assert_eq!(run(&["run", "--state", "-"]), format!("{frame}{state}"));
+}
+
+#[test]
+fn a_refused_text_is_listed_and_its_line_is_said() {
+    let ended = call_with(
+        b"qudits 2 dimension 3\nfourier 0\n\nsum 1 1\n",
+        &["run", "-"],
+    );
+    assert_eq!((ended.status, ended.text()), (1, "refused 5 at 1\n"));
+    let said = "cagvost: standard input: line 4, 'sum 1 1': refused 5 at 1: ";
+    assert!(ended.said.starts_with(said), "{}", ended.said);
+    let ended = call_with(b"qudits 2 dimension 3\nfurier 0\n", &["run", "-"]);
+    ended.failed(1, "standard input: line 2, column 1: expected fourier");
+    call_with(b"qudits 2 dimension 3\n\nfourier \xff", &["run", "-"]).failed(1, "line 3: ");
+    call_with(b"", &["run", "-"]).failed(1, "line 1, column 1: expected 'qudits N dimension D'");
+}
+
+// ---- draw, text, book, mirror
+
+#[test]
+fn books_and_texts_are_made_of_each_other() {
+    for (path, listing) in examples() {
+        let name = path.to_str().expect("a plain name");
+        let text = call_with(b"", &["text", name]);
+        if listing.starts_with("refused") {
+            text.failed(1, &listing[..listing.len() - 1]);
+            continue;
+        }
+        let text = text.done();
+        assert_eq!(text.parse::<Book>().expect("a text").to_string(), text);
+        let bytes = call_with(text.as_bytes(), &["book", "-"]);
+        assert_eq!((bytes.status, bytes.said.as_str()), (0, ""));
+        assert!(bytes.out == fs::read(&path).expect("a book"), "{name}");
+        // Each takes its own form too.
+        assert_eq!(call_with(text.as_bytes(), &["text", "-"]).done(), text);
+        assert!(call_with(&bytes.out, &["book", "-"]).out == bytes.out);
+    }
+}
+
+#[test]
+fn a_file_is_written_only_if_all_is_good() {
+    let folder = folder("written");
+    let out = folder.join("out");
+    let name = out.to_str().expect("a plain name");
+    for command in ["text", "book", "mirror"] {
+        call_with(
+            b"qudits 2 dimension 3\nsum 0 0\n",
+            &[command, "-", "-o", name],
+        )
+        .failed(1, "line 2, 'sum 0 0': refused 5 at 0");
+        call_with(
+            b"qudits 2 dimension 3\nsum 0\n",
+            &[command, "-", "-o", name],
+        )
+        .failed(1, "line 2");
+    }
+    call_with(PAPER.as_bytes(), &["mirror", "-", "-o", name]).failed(1, "refused 12 at 2");
+    assert!(is_empty(&folder));
+    assert_eq!(
+        call_with(PAPER.as_bytes(), &["book", "-", "-o", name]).done(),
+        ""
+    );
+    assert_eq!(fs::read(&out).expect("a book"), PAPER_BOOK);
+    assert_eq!(
+        call_with(&PAPER_BOOK, &["text", "-", "-o", name]).done(),
+        ""
+    );
+    assert_eq!(fs::read_to_string(&out).expect("a text"), PAPER);
+    let nowhere = folder.join("missing/out");
+    let nowhere = nowhere.to_str().expect("a plain name");
+    call_with(PAPER.as_bytes(), &["book", "-", "-o", nowhere]).failed(2, nowhere);
+}
+
+#[test]
+fn the_mirror_of_the_stored_circuit() {
+    let mirror = call("mirror examples/circuit.book").done();
+    assert_eq!(mirror, call("text examples/mirror.book").done());
+    // The mirror of the mirror is the circuit without its error.
+    let again = call_with(mirror.as_bytes(), &["mirror", "-"]).done();
+    let circuit = call("text examples/circuit.book").done();
+    let without = circuit.lines().filter(|line| !line.starts_with("error"));
+    assert!(again.lines().eq(without));
+    assert_ne!(again, circuit);
+}
+
+#[test]
+fn a_drawing_has_a_line_per_qudit() {
+    let drawing = call("draw examples/ghz.circuit").done();
+    let lines: Vec<&str> = drawing.lines().collect();
+    assert_eq!(lines.len(), 5, "{drawing}");
+    let symbols = ["F", "●", "⊕", "M0"];
+    assert!(
+        symbols.iter().all(|symbol| drawing.contains(symbol)),
+        "{drawing}"
+    );
+    let narrow = call("draw examples/ghz.circuit --width 20").done();
+    assert!(narrow.lines().count() > 5);
+    assert!(
+        narrow.lines().all(|line| line.chars().count() <= 20),
+        "{narrow}"
+    );
+    assert_eq!(call("draw examples/ghz.circuit --width=0").done(), drawing);
+    let drawn = call_with(PAPER.as_bytes(), &["draw", "-"]).done();
+    assert!(
+        drawn.lines().nth(1).is_some_and(|line| line.contains("!X")),
+        "{drawn}"
+    );
+}
+
+// ---- share and sum
+
+#[test]
+fn the_same_seed_gives_the_same_figure_on_any_number_of_threads() {
+    let share =
+        |more: &str| call(&format!("share {GHZ} --model {MODEL} --shots 20001 {more}")).done();
+    let figure = share("--threads 1");
+    assert_eq!(figure.lines().count(), 3, "{figure}");
+    assert!(
+        figure
+            .lines()
+            .next()
+            .is_some_and(|line| line.contains("20001")),
+        "{figure}"
+    );
+    for threads in ["2", "3", "8"] {
+        assert_eq!(share(&format!("--threads {threads} --seed 1")), figure);
+    }
+    assert_ne!(share("--seed 2"), figure);
+    assert_ne!(share("--seed 18446744073709551615"), figure);
+}
+
+#[test]
+fn shards_add_up_to_the_unsharded_figure() {
+    let folder = folder("shards");
+    let job = format!("share {GHZ} --error 0.01 --shots 10007 --seed 7");
+    let figure = call(&job).done();
+    for of in [1, 3, 8] {
+        let mut names = Vec::new();
+        for index in 1..=of {
+            let part = call(&format!("{job} --shard {index}/{of}")).done();
+            let name = folder.join(format!("{index}.of.{of}"));
+            fs::write(&name, part).expect("a part");
+            names.push(name.to_str().expect("a plain name").to_string());
+        }
+        names.reverse();
+        let sum = |names: &[String]| {
+            let words = ["sum"].into_iter().chain(names.iter().map(String::as_str));
+            call_with(b"", &Vec::from_iter(words))
+        };
+        assert_eq!(sum(&names).done(), figure);
+        if of > 1 {
+            sum(&names[1..]).failed(1, &format!("of {of} shards these are missing: {of}\n"));
+            sum(&[&names[..], &names[..1]].concat()).failed(1, &format!("{of}/{of}"));
+        }
+    }
+}
+
+#[test]
+fn parts_of_different_jobs_are_not_added() {
+    let folder = folder("jobs");
+    let part = |name: &str, line: &str| {
+        let path = folder.join(name);
+        fs::write(&path, call(line).done()).expect("a part");
+        path.to_str().expect("a plain name").to_string()
+    };
+    let first = part(
+        "first",
+        &format!("share {GHZ} --error 0.01 --shots 100 --shard 1/2"),
+    );
+    for (what, line) in [
+        (
+            "circuit",
+            "share examples/paper.book --error 0.01 --shots 100 --shard 2/2",
+        ),
+        (
+            "model",
+            "share examples/ghz.circuit --error 0.02 --shots 100 --shard 2/2",
+        ),
+        (
+            "seed",
+            "share examples/ghz.circuit --error 0.01 --shots 100 --shard 2/2 --seed 2",
+        ),
+        (
+            "shots",
+            "share examples/ghz.circuit --error 0.01 --shots 101 --shard 2/2",
+        ),
+        (
+            "shard",
+            "share examples/ghz.circuit --error 0.01 --shots 100 --shard 2/3",
+        ),
+    ] {
+        // The stored book has an error of its own, which is said.
+        let ended = call(line);
+        assert_eq!(ended.status, 0, "{}", ended.said);
+        let path = folder.join(what);
+        fs::write(&path, &ended.out).expect("a part");
+        let other = path.to_str().expect("a plain name");
+        call_with(b"", &["sum", &first, other]).failed(1, what);
+    }
+    let other = part(
+        "other",
+        &format!("share {GHZ} --error 0.01 --shots 100 --shard 2/2"),
+    );
+    call_with(b"", &["sum", &other, &first]).done();
+}
+
+#[test]
+fn a_sweep_prints_what_each_rate_gives_and_draws_it() {
+    let folder = folder("sweep");
+    let svg = folder.join("curve.svg");
+    let name = svg.to_str().expect("a plain name");
+    let sweep = |rates: &str| format!("share {GHZ} --shots 3000 --sweep {rates}");
+    let table = call(&sweep("0.001,0.01,0.1")).done();
+    for rate in ["0.001", "0.01", "0.1"] {
+        let figure = call(&format!("share {GHZ} --shots 3000 --error {rate}")).done();
+        let unharmed = figure.lines().nth(1).expect("a share");
+        let numbers: Vec<&str> = unharmed
+            .split_whitespace()
+            .filter(|word| word.parse::<f64>().is_ok())
+            .collect();
+        let line = table
+            .lines()
+            .find(|line| line.split_whitespace().next() == Some(rate))
+            .unwrap_or_else(|| panic!("{rate} in {table}"));
+        let words: Vec<&str> = line.split_whitespace().collect();
+        for number in numbers.iter().filter(|number| **number != "95") {
+            assert!(words.contains(number), "{number} in {line}");
+        }
+    }
+    assert!(is_empty(&folder));
+    let drawn = call(&format!("{} --svg {name}", sweep("0.001,0.01,0.1"))).done();
+    assert_eq!(drawn, table);
+    let drawn = fs::read_to_string(&svg).expect("a drawing");
+    assert!(drawn.starts_with("<svg ") && drawn.trim_end().ends_with("</svg>"));
+    // With a model the rates are factors.
+    let factors = call(&format!("{} --model {MODEL}", sweep("0.5,1"))).done();
+    let figure = call(&format!("share {GHZ} --shots 3000 --model {MODEL}")).done();
+    let unharmed = figure.lines().nth(1).expect("a share");
+    let count = unharmed.split_whitespace().nth(1).expect("a count");
+    assert!(
+        factors
+            .lines()
+            .last()
+            .is_some_and(|line| line.contains(count)),
+        "{factors}"
+    );
+}
+
+/// Whatever is damaged is said, and nothing is written.
+#[test]
+fn damaged_input_writes_nothing() {
+    let folder = folder("damaged");
+    let svg = folder.join("curve.svg");
+    let name = svg.to_str().expect("a plain name");
+    let share =
+        |input: &str, words: &[&str]| call_with(input.as_bytes(), &[&["share"], words].concat());
+    let sweep = ["-", "--sweep", "0.1,0.2", "--shots", "10", "--svg", name];
+    share("qudits 2 dimension 3\nsum 0 0", &sweep).failed(1, "line 2, 'sum 0 0': refused 5 at 0");
+    share("qudits 2 dimension 3\nsum 0", &sweep).failed(1, "line 2, column 6");
+    share("fourier 0.1\nsum 0.2\nsum 0.3", &[GHZ, "--model", "-"]).failed(1, "line 3, column 1");
+    share("others 1.5", &[GHZ, "--model", "-"]).failed(1, "standard input: line 1, column 8");
+    share("others", &[GHZ, "--model", "-"]).failed(1, "line 1, column 7");
+    share("", &[GHZ, "--model", "-"]).failed(1, "line 1");
+    share("sum 0.1", &[GHZ, "--model", "-"]).failed(1, "fourier");
+    share(
+        "others 0.6",
+        &[GHZ, "--model", "-", "--sweep", "1,2", "--svg", name],
+    )
+    .failed(1, "2");
+    let part = call(&format!("share {GHZ} --error 0.1 --shots 10 --shard 1/1")).done();
+    let sum = |part: &str| call_with(part.as_bytes(), &["sum", "-"]);
+    sum(&part).done();
+    sum(&part[..part.len() / 2]).failed(1, "line ");
+    sum(&part.replacen("seed 1", "seed 2", 1)).failed(1, "line ");
+    sum("").failed(1, "line 1");
+    call(&format!("sum {GHZ}")).failed(1, "examples/ghz.circuit: line ");
+    assert!(is_empty(&folder));
+}
+
+#[test]
+fn errors_of_the_circuit_are_left_out_and_this_is_said() {
+    let with = call_with(
+        PAPER.as_bytes(),
+        &["share", "-", "--error", "0.1", "--shots", "500"],
+    );
+    assert_eq!(with.status, 0);
+    assert!(
+        with.said.contains("its own errors (1) are left out"),
+        "{}",
+        with.said
+    );
+    let without = PAPER.replace("error 1 x\n", "");
+    let without = call_with(
+        without.as_bytes(),
+        &["share", "-", "--error", "0.1", "--shots", "500"],
+    );
+    assert_eq!(without.done(), with.text());
+}
+
+#[test]
+fn too_many_errors_are_refused() {
+    let text = format!("qudits 2 dimension 3\n{}", "sum 0 1\n".repeat(1025));
+    let ended = call_with(
+        text.as_bytes(),
+        &["share", "-", "--error", "1", "--shots", "5"],
+    );
+    ended.failed(1, "shot 0 has 2050 errors, and at most 2048");
+    let fewer = text.replacen("sum 0 1\n", "", 1);
+    call_with(
+        fewer.as_bytes(),
+        &["share", "-", "--error", "1", "--shots", "5"],
+    )
+    .done();
+}
+
+// ---- Help and faults
+
+#[test]
+fn each_command_has_help() {
+    let all = call("help").done();
+    assert_eq!(all, call("--help").done());
+    for name in ["run", "draw", "text", "book", "mirror", "share", "sum"] {
+        assert!(all.contains(&format!("\n  {name} ")), "{name}");
+        let help = call(&format!("help {name}")).done();
+        assert!(
+            help.starts_with(&format!("usage: cagvost {name} ")),
+            "{help}"
+        );
+        assert!(help.contains("Exit status: 0"), "{help}");
+        assert_eq!(help, call(&format!("{name} --help")).done());
+        assert_eq!(help, call(&format!("{name} -h")).done());
+        assert!(
+            help.lines().all(|line| line.chars().count() <= 100),
+            "{help}"
+        );
+    }
+    assert_eq!(
+        call("--version").done(),
+        concat!("cagvost ", env!("CARGO_PKG_VERSION"), "\n")
+    );
+}
+
+/// Every option that a command takes is in its help.
+#[test]
+fn the_help_of_share_names_each_option() {
+    let help = call("share --help").done();
+    for option in [
+        "--error",
+        "--model",
+        "--shots",
+        "--seed",
+        "--threads",
+        "--shard",
+        "--sweep",
+        "--svg",
+    ] {
+        assert!(help.contains(&format!("\n  {option} ")), "{option}");
+    }
+}
+
+#[test]
+fn a_wrong_command_line_does_nothing() {
+    for (line, words) in [
+        ("", "usage: cagvost COMMAND"),
+        ("walk", "there is no command 'walk'"),
+        ("help walk", "there is no command 'walk'"),
+        ("run", "it needs a circuit"),
+        ("run examples/paper.book examples/full.book", "nothing else"),
+        (
+            "run examples/paper.book --states",
+            "there is no option --states",
+        ),
+        ("run examples/missing.book", "examples/missing.book: "),
+        ("run examples", "examples: "),
+        (
+            "draw examples/ghz.circuit --width wide",
+            "--width is 'wide'",
+        ),
+        ("text examples/ghz.circuit -o", "-o needs a value"),
+        ("sum", "it needs"),
+        ("sum examples/missing", "examples/missing: "),
+        ("share examples/ghz.circuit", "--error P or --model FILE"),
+        ("share --error 0.1", "it needs a circuit"),
+        ("share examples/ghz.circuit --error 1.1", "--error is '1.1'"),
+        (
+            "share examples/ghz.circuit --error -0.1",
+            "--error is '-0.1'",
+        ),
+        ("share examples/ghz.circuit --error nan", "--error is 'nan'"),
+        (
+            "share examples/ghz.circuit --error 0.1 --model examples/chip.model",
+            "exclude",
+        ),
+        (
+            "share examples/ghz.circuit --model examples/missing",
+            "examples/missing: ",
+        ),
+        (
+            "share examples/ghz.circuit --error 0.1 --shots 0",
+            "--shots should be 1 or more",
+        ),
+        (
+            "share examples/ghz.circuit --error 0.1 --shots 1e3",
+            "--shots is '1e3'",
+        ),
+        (
+            "share examples/ghz.circuit --error 0.1 --seed -1",
+            "--seed is '-1'",
+        ),
+        (
+            "share examples/ghz.circuit --error 0.1 --threads 0",
+            "--threads is '0'",
+        ),
+        (
+            "share examples/ghz.circuit --error 0.1 --shard 0/3",
+            "--shard is '0/3'",
+        ),
+        (
+            "share examples/ghz.circuit --error 0.1 --shard 4/3",
+            "--shard is '4/3'",
+        ),
+        (
+            "share examples/ghz.circuit --error 0.1 --shard 3",
+            "--shard is '3'",
+        ),
+        (
+            "share examples/ghz.circuit --error 0.1 --sweep 0.1,0.2",
+            "--error",
+        ),
+        (
+            "share examples/ghz.circuit --sweep 0.1,0.2 --shard 1/2",
+            "exclude",
+        ),
+        (
+            "share examples/ghz.circuit --sweep 0.1,x",
+            "--sweep is '0.1,x'",
+        ),
+        (
+            "share examples/ghz.circuit --error 0.1 --svg x.svg",
+            "no --sweep",
+        ),
+    ] {
+        call(line).failed(2, words);
+    }
+}
+
+/// A listing that cannot be written is no success.
+#[test]
+fn output_that_cannot_be_written_is_said() {
+    let Ok(full) = File::options().write(true).open("/dev/full") else {
+        return; // there is no such device here
+    };
+    let child = Command::new(env!("CARGO_BIN_EXE_cagvost"))
+        .args(["run", "examples/paper.book"])
+        .current_dir(top())
+        .stdout(full)
+        .stderr(Stdio::piped())
+        .spawn();
+    let output = child
+        .and_then(|child| child.wait_with_output())
+        .expect("the command");
+    assert_eq!(output.status.code(), Some(2));
+    let said = String::from_utf8(output.stderr).expect("text");
+    assert!(said.starts_with("cagvost: standard output: "), "{said}");
+}
