@@ -455,6 +455,40 @@ fn too_many_errors_are_refused() {
     .done();
 }
 
+// ---- What is shown elsewhere
+
+/// README shows a share and a drawing as they are printed, each behind its command.
+#[test]
+fn the_readme_shows_what_is_printed() {
+    let readme = fs::read_to_string(top().join("README.md")).expect("README.md");
+    for (line, gap) in [
+        (
+            "./cagvost share examples/ghz.circuit --model examples/chip.model",
+            "\n\n",
+        ),
+        ("$ ./cagvost draw examples/ghz.circuit", "\n"),
+    ] {
+        let (_, words) = line.split_once("./cagvost ").expect("a command");
+        let printed = call(words).done();
+        let shown = printed.lines().map(|line| format!("    {line}\n"));
+        let shown = format!("    {line}{gap}{}\n", shown.collect::<String>());
+        assert!(readme.contains(&shown), "README.md does not show\n{shown}");
+    }
+}
+
+/// The stored curve is what the command of examples/README.md draws.
+#[test]
+fn the_stored_curve_is_drawn_again() {
+    let folder = folder("curve");
+    let svg = folder.join("curve.svg");
+    let words = "share examples/ghz.circuit --sweep 0.0001:0.1:10 --svg";
+    let readme = fs::read_to_string(top().join("examples/README.md")).expect("README.md");
+    assert!(readme.contains(&format!("`./cagvost {words} examples/ghz.svg`")));
+    call(&format!("{words} {}", svg.display())).done();
+    let [drawn, stored] = [svg, top().join("examples/ghz.svg")].map(fs::read);
+    assert!(drawn.expect("a drawing") == stored.expect("a drawing"));
+}
+
 // ---- Help and faults
 
 #[test]

@@ -73,12 +73,9 @@ usage: cagvost draw CIRCUIT [--width COLUMNS]
 
 Draws the circuit with one line per qudit, from left to right.
 
-  F      Fourier gate             ●──⊕   SUM, from control to target
-  S      phase gate               ●──●   CZ
-  F^3    applied three times      ×──×   swap
-  *2     multiplier by 2          M0     measurement 0, as the results are numbered
-  !X^2Z  an error
-
+",
+    include_str!("../../legend.txt"),
+    "
   --width COLUMNS    go on below after so many columns (100); 0 for no limit
 
 ",
