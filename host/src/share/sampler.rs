@@ -18,8 +18,8 @@ use crate::book::{Book, WeylError, narrow};
 /// has the probability 1 − e^(−hazard) = P. A table leads from a point to its site, so that the work
 /// grows with the errors of a shot and not with the operations of the circuit.
 ///
-/// The line is kept in floating-point numbers. That changes the probability of a site by at most
-/// 2^−53 of the length of the line: by less than 10^−14 where a shot has up to 100 errors.
+/// The line is kept in floating-point numbers. Their rounding changes the probability of a site by
+/// about 2^−53 of the length of the line: by some 10^−14 where a shot has 100 errors.
 ///
 /// ```
 /// use cagvost::book::{Book, Operation};
@@ -155,7 +155,8 @@ impl Sampler {
             let i = self.site_at(point);
             if i == struck {
                 // A second point on the same site says nothing new. What comes after the site does
-                // not depend on it, so that the walk may go on from there.
+                // not depend on it, so that the walk may go on from there. It could do so from the
+                // end of every struck site; but then each point would wait for the search before it.
                 point = self.ends[i];
             } else {
                 struck = i;

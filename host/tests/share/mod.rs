@@ -1,8 +1,9 @@
 //! Shares of unharmed shots: counted as direct runs and closed forms say, drawn as the model says,
 //! the same on any number of threads and in any parts.
 //!
-//! All seeds are fixed. Where a frequency is compared with a probability, the bound is five standard
-//! deviations or a chi-square that wider ones would pass once in millions.
+//! All seeds are fixed, so that a test passes always or never. Where a frequency is compared with a
+//! probability, the bound is five standard deviations; a chi-square may be six of its standard
+//! deviations above its mean.
 
 mod closed_forms;
 mod direct_runs;
