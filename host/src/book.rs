@@ -305,6 +305,14 @@ impl Book {
         self
     }
 
+    /// The same operations and choices, without errors.
+    pub fn without_errors(&self) -> Book {
+        Book {
+            errors: Vec::new(),
+            ..self.clone()
+        }
+    }
+
     /// The dimension.
     pub fn dimension(&self) -> u8 {
         self.d

@@ -4,9 +4,9 @@ use crate::common;
 
 use cagvost::book::{Book, DIMENSIONS, MAX_ERRORS, MAX_OPERATIONS, Operation};
 use common::plain::{self, Row};
+use common::with_raised_choices;
 use common::{ROWS, Rng, Run, Shape, UNWRITTEN, Verdicts, run_both};
 use common::{draw_book, draw_gate, draw_tableau, with_tail, zero_tableau};
-use common::{with_raised_choices, without_errors};
 
 /// How often each kind of measurement was seen.
 #[derive(Default)]
@@ -296,7 +296,7 @@ fn framed_and_direct(rng: &mut Rng, d: u8, n: u8, seen: &mut Verdicts) {
     let room = vec![UNWRITTEN; 2 * book.measurements()];
     let run = |book: &Book| run_both(&book.to_bytes(), &tableau, &room);
     let direct = run(&with_raised_choices(&book));
-    let clean = run(&without_errors(&book));
+    let clean = run(&book.without_errors());
     let (mut framed, mut results) = (tableau.clone(), room.clone());
     let mut shifts = vec![UNWRITTEN; 2 * usize::from(n)];
     let mut frame = shifts.clone();

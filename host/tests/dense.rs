@@ -9,7 +9,7 @@ use cagvost::book::{Book, DIMENSIONS, Operation, WeylError};
 use common::dense::{State, levels};
 use common::trays::{draw_circuit, draw_errors};
 use common::{ROWS, Rng, Shape, UNWRITTEN, Verdicts, paper_book, with_times};
-use common::{cz, draw_book, draw_error, every_factor, sum, times, without_errors, zero_tableau};
+use common::{cz, draw_book, draw_error, every_factor, sum, times, zero_tableau};
 use common::{every_gate, operations_of};
 
 /// Rounding in a run of some dozens of gates stays far below, 1/d and a root's step far above.
@@ -86,7 +86,7 @@ fn follow_frame(book: &Book, seen: &mut Seen) -> Carried {
     let carried = carry(book);
     let state = replay(book, &carried.results, &mut Seen::default());
     check_rows(&carried.tableau, &state, book);
-    let clean = follow(&without_errors(book), &mut Seen::default());
+    let clean = follow(&book.without_errors(), &mut Seen::default());
     check_shifts(&carried, &clean.tableau, book);
     let framed = check_frame(&carried, &clean, book);
     assert!(

@@ -6,9 +6,9 @@ use crate::common;
 use cagvost::book::{Book, DIMENSIONS, MAX_ERRORS, MAX_OPERATIONS, Operation, WeylError};
 use common::frames::{Buffers, carry_both};
 use common::plain::{self, Row};
+use common::with_raised_choices;
 use common::{PAPER_BOOK, ROWS, Rng, Shape, UNWRITTEN, Verdicts, named, run_both};
 use common::{cz, draw_book, draw_error, draw_tableau, sum, zero_tableau};
-use common::{with_raised_choices, without_errors};
 
 // ---- Cases
 
@@ -173,7 +173,7 @@ fn framed_and_direct(rng: &mut Rng, book: &Book, tableau: Vec<u8>, seen: &mut Ve
     assert!(framed.results == direct.results, "results of {first:02x?}");
     assert!(framed.tableau == direct.tableau, "tableau of {first:02x?}");
     assert_eq!(framed.tableau[..ROWS], [d, n]);
-    let clean = run(&without_errors(book));
+    let clean = run(&book.without_errors());
     let [carried, unstruck] = [&framed.tableau[ROWS..], &clean.tableau[ROWS..]];
     let same = plain::same_set(d.into(), n.into(), carried, unstruck);
     assert_eq!(returned.2, usize::from(!same), "verdict of {first:02x?}");

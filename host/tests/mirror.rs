@@ -12,10 +12,10 @@ use cagvost::book::{Operation, WeylError};
 use common::frames::{Buffers, carry_both};
 use common::plain::{self, Returned, Row};
 use common::trays::{draw_circuit, draw_errors};
+use common::with_tail;
 use common::{BODIES, PAPER_BOOK, ROWS, Rng, Shape, UNWRITTEN, mirror_both, run_both, write_both};
 use common::{cz, damage, draw_book, draw_error, draw_gate, draw_tableau, sum, with_times};
 use common::{every_gate, gates_on, most_times, operations_of, shuffled, slices, times, with_byte};
-use common::{with_tail, without_errors};
 use std::thread;
 
 /// Exactly the room that the mirror of so many operations needs.
@@ -234,7 +234,7 @@ fn the_mirror_of_the_mirror_is_the_book_without_its_errors() {
         let [operations, ..] = book.bodies();
         let written = write_both(&[operations, vec![], vec![]], d.into(), n.into(), &room);
         assert_eq!((answer, twice), written, "d {d} n {n}");
-        assert_eq!(written.1, without_errors(&book).to_bytes());
+        assert_eq!(written.1, book.without_errors().to_bytes());
     }
 }
 
@@ -728,7 +728,7 @@ fn errors_leave_no_trace_in_the_mirror() {
     let mut rng = Rng(17);
     for d in DIMENSIONS {
         let noisy = draw_struck(&mut rng, d, 3, 30);
-        let clean = without_errors(&noisy).to_bytes();
+        let clean = noisy.without_errors().to_bytes();
         let noisy = noisy.to_bytes();
         assert!(noisy.len() > clean.len());
         let room = rng.bytes(noisy.len());

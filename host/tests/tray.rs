@@ -10,7 +10,7 @@ use cagvost::book::{Book, DIMENSIONS, MAX_ERRORS, MAX_OPERATIONS, Operation, Wey
 use cagvost::{MAX_SHOTS, Refusal, Shots, Tray, TrayCounts, Verdict};
 use common::trays::{Lent, Returned, draw_circuit, draw_errors, draw_tray, separate, tray_both};
 use common::{PAPER_BOOK, ROWS, Rng, Shape, UNWRITTEN, draw_book, draw_error, paper_book, slices};
-use common::{draw_gate, draw_tableau, sum, with_byte, without_errors, zero_tableau};
+use common::{draw_gate, draw_tableau, sum, with_byte, zero_tableau};
 use std::thread;
 
 // ---- Cases
@@ -93,7 +93,7 @@ fn the_books_own_errors_are_not_used() {
         let tray = draw_tray(&mut rng, &book, 20, 2);
         let with = Lent::drawn(&mut rng, &book, &tray);
         let mut without = with.clone();
-        without.book = without_errors(&book).to_bytes();
+        without.book = book.without_errors().to_bytes();
         assert!(with.book != without.book);
         assert!(tray_both(&with) == tray_both(&without));
     }

@@ -8,7 +8,7 @@ use super::part::Job;
 use super::sampler::Sampler;
 use super::trays::Trays;
 use crate::book::{Book, MAX_ERRORS};
-use crate::{Refusal, Shots, Tray};
+use crate::{Shots, Tray};
 use std::num::NonZeroUsize;
 use std::ops::Range;
 use std::sync::{Mutex, PoisonError};
@@ -40,7 +40,7 @@ impl Share {
         let sampler = Sampler::new(book, model)?;
         let (d, n) = (book.dimension().into(), book.qudits().into());
         let mut share = Share {
-            book: without_errors(book).map_err(ShareError::Refused)?,
+            book: book.without_errors().write().map_err(ShareError::Refused)?,
             tableau: vec![0; crate::tableau_len(n)],
             results: vec![0; crate::results_len(book.measurements())],
             sampler,
@@ -182,15 +182,6 @@ impl Share {
             results_unharmed: results_unharmed.count() as u64,
         })
     }
-}
-
-/// The bytes of the book that has no errors and is otherwise this one.
-fn without_errors(book: &Book) -> Result<Vec<u8>, Refusal> {
-    let (d, n) = (book.dimension().into(), book.qudits().into());
-    let [operations, _, choices] = &book.bodies();
-    let mut bytes = vec![0; crate::book_len(operations, &[], choices)];
-    crate::write_book(d, n, operations, &[], choices, &mut bytes)?;
-    Ok(bytes)
 }
 
 /// What a thread uses again for each tray: the errors, the bytes of the tray and what a run fills.

@@ -327,16 +327,6 @@ pub fn shuffled(rng: &mut Rng, mut operations: Vec<Operation>) -> Vec<Operation>
     operations
 }
 
-/// The same operations and choices, without errors.
-pub fn without_errors(book: &Book) -> Book {
-    let mut clean = Book::new(book.dimension(), book.qudits());
-    book.operations()
-        .iter()
-        .for_each(|&o| _ = clean.operation(o));
-    book.choices().iter().for_each(|&c| _ = clean.choice(c));
-    clean
-}
-
 /// The same book with each choice raised by the frame's X power on the measured qudit.
 pub fn with_raised_choices(book: &Book) -> Book {
     let read = plain::read(&book.to_bytes()).expect("an accepted book");

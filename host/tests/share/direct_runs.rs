@@ -4,7 +4,7 @@
 use super::{circuit, count, share};
 use crate::common::trays::draw_circuit;
 use crate::common::{ROWS, Rng, Run, UNWRITTEN, plain, run_both};
-use crate::common::{with_raised_choices, without_errors, zero_tableau};
+use crate::common::{with_raised_choices, zero_tableau};
 use cagvost::book::Book;
 use cagvost::share::{Counts, Share};
 
@@ -18,7 +18,7 @@ fn run(book: &Book) -> Run {
 /// Counts by a direct run for each shot, with the choices that the frame raises: that run ends as the
 /// frame run of the same errors.
 fn by_direct_runs(book: &Book, share: &Share, seed: u64, shots: u64) -> Counts {
-    let without = without_errors(book);
+    let without = book.without_errors();
     let clean = run(&without);
     let (d, n) = (book.dimension().into(), book.qudits().into());
     let mut counts = Counts::default();
@@ -82,7 +82,7 @@ fn counts_of_an_entangled_pair() {
 #[test]
 fn errors_of_the_circuit_are_not_used() {
     let book = circuit("qudits 2 dimension 3\nerror 0 x\nfourier 0\nerror 1 x\nsum 0 1\nmeasure 1");
-    let [noisy, clean] = [&book, &without_errors(&book)].map(|book| share(book, "others 0.1"));
+    let [noisy, clean] = [&book, &book.without_errors()].map(|book| share(book, "others 0.1"));
     assert_eq!((noisy.unused_errors(), clean.unused_errors()), (2, 0));
     assert_eq!(count(&noisy, 3, 5000), count(&clean, 3, 5000));
     assert_eq!(noisy.job(3, 5000), clean.job(3, 5000));
