@@ -125,7 +125,7 @@ PATH=$path
 should "a failed proof ends with status 2 and what rt said" did_not_run '^rt: inverse NOT PROVED'
 should "each crate that is proved is named" says 'search proved (3 s)'
 should "it is named as it is proved" does_not_say 'nothing was said in time'
-for tool in sh cat chmod dirname head mktemp rm sleep; do ln -s "$(command -v "$tool")" "$room/bare/$tool"; done
+for tool in sh cat chmod dirname find head mktemp rm sleep; do ln -s "$(command -v "$tool")" "$room/bare/$tool"; done
 PATH=$room/bare
 simulate examples/paper.book
 PATH=$path
@@ -221,6 +221,20 @@ should "the command finds a book from another folder" ended 0 "$top/examples/pap
 unset CDPATH
 cd "$top" || exit 1
 
+# On a terminal: a long count says how far it is, and bytes are not shown.
+is_a_figure() {
+    [ "$(wc -l < "$room/listing")" -eq 3 ] && ! grep -q ' of 20000000 shots, ' "$room/listing"
+}
+if command -v script > /dev/null; then
+    script -qec "./cagvost share examples/ghz.circuit --error 0.01 --shots 20000000 --threads 1 > $room/listing" /dev/null > "$room/said" < /dev/null
+    status=$?
+    should "a long count says how far it is" grep -q ' of 20000000 shots, ' "$room/said"
+    should "this is not in what it prints" is_a_figure
+    script -qec './cagvost book examples/paper.book' /dev/null > "$room/said" < /dev/null
+    status=$?
+    should "bytes are not shown on a terminal" grep -q 'not shown on a terminal' "$room/said"
+fi
+
 # A folder with the commands alone: no toolchain, then one that proves a crate and fails at the next, then no cargo.
 cp cagvost "$room/clone"
 rm -rf "$room/clone/.lock"
@@ -235,10 +249,15 @@ PATH=$room/fails:$room/bare:$PATH
 cagvost help
 should "a failed proof ends the command with status 2 and what rt said" did_not_run '^rt: inverse NOT PROVED'
 should "the command names each crate that is proved" says 'search proved (3 s)'
-mkdir -p "$room/clone/target/staticlib"
-: > "$room/clone/target/staticlib/libcagvost.a"
+mkdir -p "$room/clone/target/staticlib" "$room/clone/crates"
+: > "$room/clone/crates.txt"
+touch -d '2 days ago' "$room/clone/crates" "$room/clone/crates.txt"
+touch -d '1 day ago' "$room/clone/target/staticlib/libcagvost.a"
 cagvost help
 should "a command that is not built does not run" did_not_run_in_a_line 'cargo did not build'
+: > "$room/clone/crates/changed"
+cagvost help
+should "what has changed is proved anew" did_not_run '^rt: inverse NOT PROVED'
 rm "$room/bare/cargo"
 PATH=$room/bare
 cagvost help

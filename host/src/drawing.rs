@@ -41,7 +41,7 @@
 //!
 //! # Books that a run refuses
 //!
-//! These are drawn as well as they can be. An operation or an error on a qudit that there is not is
+//! These are drawn as well as they can be. An operation or an error on a qudit that does not exist is
 //! listed below the lines, and so is a gate on one qudit twice. An error stands before the operation
 //! that it is placed before, also where the order of entries is another, and at the end if there is
 //! no such operation. The last line is the refusal.

@@ -10,7 +10,7 @@ const ROWS: usize = 2;
 /// A valid tableau: n destabilizers and n stabilizers, each with its phase.
 ///
 /// It comes from the proved layer, from bytes that passed the proved test, or from a run, which is
-/// proved to leave a valid one. So there is no other than a valid tableau.
+/// proved to leave a valid one. So every `Tableau` is valid.
 ///
 /// ```
 /// use cagvost::Tableau;

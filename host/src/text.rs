@@ -10,29 +10,20 @@
 //! measure 1
 //! ```
 //!
-//! The first line names the qudits, numbered from 0, and their dimension. Then comes one operation
-//! a line, and each error before the operation that it strikes or after the last one.
+//! The first line names the number of qudits, which are counted from 0, and their dimension. Then
+//! comes one operation a line, and each error before the operation that it strikes or after the last
+//! one. These are the lines, with C, T and Q for the numbers of qudits:
 //!
-//! | line | what it says |
-//! |---|---|
-//! | `fourier Q` | the Fourier gate |
-//! | `phase Q` | the phase gate |
-//! | `sum C T` | SUM: the level of C is added to that of T |
-//! | `cz C T` | CZ |
-//! | `swap C T` | two qudits are exchanged |
-//! | `multiplier Q by U` | level j becomes U·j |
-//! | `measure Q` | a measurement; `measure Q choose M` has another choice than 0 |
-//! | `error Q x^P z^S` | the error X^P Z^S; either may be missing, and `i` is the identity |
-//!
-//! `fourier`, `phase`, `sum` and `cz` may be followed by the number of applications, as in
-//! `phase 2 ^3`. A power of 1 need not be written. `#` begins a comment. Words may be written in small
-//! or large letters.
+//! ```text
+#![doc = include_str!("lines.txt")]
+//! ```
 //!
 //! What can be read is checked by the proved writer, so that a text is refused exactly if a run
 //! would refuse its bytes, by the same number.
 
 use crate::Refusal;
 use crate::book::{Book, MAX_CHOICES, MAX_ERRORS, MAX_OPERATIONS, Operation, WeylError};
+use crate::tableau::Power;
 use crate::words::{self, Line, TextError};
 use std::fmt;
 use std::str::FromStr;
@@ -294,13 +285,8 @@ impl fmt::Display for WeylError {
         if (self.p, self.s) == (0, 0) {
             return write!(f, " i");
         }
-        for (letter, power) in [('x', self.p), ('z', self.s)] {
-            match power {
-                0 => {}
-                1 => write!(f, " {letter}")?,
-                k => write!(f, " {letter}^{k}")?,
-            }
-        }
-        Ok(())
+        let powers = [Power('x', self.p), Power('z', self.s)];
+        let mut written = powers.iter().filter(|Power(_, power)| *power != 0);
+        written.try_for_each(|power| write!(f, " {power}"))
     }
 }

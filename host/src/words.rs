@@ -78,18 +78,21 @@ impl Error for TextError {}
 
 /// The lines that have words. A comment begins with `#` and goes on to the end of its line.
 pub(crate) fn lines(text: &str) -> impl Iterator<Item = Line<'_>> {
-    // Some editors mark a text with this character.
-    let text = text.strip_prefix('\u{feff}').unwrap_or(text);
-    let lines = (1..).zip(text.lines());
+    let lines = (1..).zip(unmarked(text).lines());
     lines
         .map(|(number, line)| Line::new(number, line))
         .filter(|line| !line.words.is_empty())
 }
 
+/// The text without the character by which some editors mark one.
+fn unmarked(text: &str) -> &str {
+    text.strip_prefix('\u{feff}').unwrap_or(text)
+}
+
 /// What is said of a text that ends too soon: the line behind its last.
 pub(crate) fn ended(text: &str, expected: &str) -> TextError {
     TextError::Unexpected {
-        line: text.lines().count() + 1,
+        line: unmarked(text).lines().count() + 1,
         column: 1,
         expected: expected.to_string(),
         found: "the end of the text".to_string(),
@@ -177,7 +180,7 @@ impl<'a> Line<'a> {
     /// Something else than this stands where the reading is.
     pub(crate) fn unexpected(&self, expected: &str) -> TextError {
         let (start, found) = match self.words.get(self.read) {
-            Some(&(start, word)) => (start, format!("'{word}'")),
+            Some(&(start, word)) => (start, format!("'{}'", shown(word))),
             None => (self.text.len(), "the end of the line".to_string()),
         };
         TextError::Unexpected {
@@ -192,10 +195,26 @@ impl<'a> Line<'a> {
     pub(crate) fn refused(&self, refusal: Refusal) -> TextError {
         TextError::Refused {
             line: self.number,
-            text: self.text().to_string(),
+            text: shown(self.text()),
             refusal,
         }
     }
+}
+
+/// A part of a text as a message has it: without control characters, and cut if it is long.
+fn shown(text: &str) -> String {
+    const MOST: usize = 40;
+    let mut shown = String::new();
+    for c in text.chars().take(MOST) {
+        match c.is_control() {
+            true => shown.extend(c.escape_unicode()),
+            false => shown.push(c),
+        }
+    }
+    if text.chars().nth(MOST).is_some() {
+        shown.push('…');
+    }
+    shown
 }
 
 fn is_number(word: &str) -> bool {

@@ -153,7 +153,10 @@ fn a_refused_text_is_listed_and_its_line_is_said() {
     assert!(ended.said.starts_with(said), "{}", ended.said);
     let ended = call_with(b"qudits 2 dimension 3\nfurier 0\n", &["run", "-"]);
     ended.failed(1, "standard input: line 2, column 1: expected fourier");
-    call_with(b"qudits 2 dimension 3\n\nfourier \xff", &["run", "-"]).failed(1, "line 3: ");
+    call_with(b"qudits 2 dimension 3\n\nfourier \xff", &["run", "-"])
+        .failed(1, "line 3, column 9: ");
+    call_with(b"\xff", &["run", "-"]).failed(1, "line 1, column 1: ");
+    call_with(b"\n\xff", &["run", "-"]).failed(1, "line 2, column 1: ");
     call_with(b"", &["run", "-"]).failed(1, "line 1, column 1: expected 'qudits N dimension D'");
 }
 
@@ -208,6 +211,8 @@ fn a_file_is_written_only_if_all_is_good() {
         ""
     );
     assert_eq!(fs::read_to_string(&out).expect("a text"), PAPER);
+    // Nothing else is left beside it.
+    assert_eq!(fs::read_dir(&folder).expect("a folder").count(), 1);
     let nowhere = folder.join("missing/out");
     let nowhere = nowhere.to_str().expect("a plain name");
     call_with(PAPER.as_bytes(), &["book", "-", "-o", nowhere]).failed(2, nowhere);
@@ -223,6 +228,32 @@ fn the_mirror_of_the_stored_circuit() {
     let without = circuit.lines().filter(|line| !line.starts_with("error"));
     assert!(again.lines().eq(without));
     assert_ne!(again, circuit);
+}
+
+#[test]
+fn a_mirror_is_written_to_a_file() {
+    let out = folder("mirrored").join("out");
+    let name = out.to_str().expect("a plain name");
+    let words = ["mirror", "examples/circuit.book", "-o", name];
+    assert_eq!(call_with(b"", &words).done(), "");
+    let written = fs::read_to_string(&out).expect("a text");
+    assert_eq!(written, call("mirror examples/circuit.book").done());
+    assert_eq!(call("mirror examples/circuit.book -o -").done(), written);
+}
+
+/// A text may begin with the first byte of a book, which is Q.
+#[test]
+fn large_letters_are_text() {
+    let large = PAPER.to_ascii_uppercase();
+    assert_eq!(call_with(large.as_bytes(), &["text", "-"]).done(), PAPER);
+}
+
+#[test]
+fn a_wide_drawing_goes_on_below() {
+    let text = format!("qudits 1 dimension 3\n{}", "fourier 0\n".repeat(99));
+    let drawn = call_with(text.as_bytes(), &["draw", "-"]).done();
+    let widths = Vec::from_iter(drawn.lines().map(|line| line.chars().count()));
+    assert_eq!(widths, [100, 0, 100, 0, 10], "{drawn}");
 }
 
 #[test]
@@ -292,7 +323,8 @@ fn shards_add_up_to_the_unsharded_figure() {
         assert_eq!(sum(&names).done(), figure);
         if of > 1 {
             sum(&names[1..]).failed(1, &format!("of {of} shards these are missing: {of}\n"));
-            sum(&[&names[..], &names[..1]].concat()).failed(1, &format!("{of}/{of}"));
+            let twice = format!("{0} and {0}: shard {of}/{of} twice", names[0]);
+            sum(&[&names[..], &names[..1]].concat()).failed(1, &twice);
         }
     }
 }
@@ -337,7 +369,9 @@ fn parts_of_different_jobs_are_not_added() {
         let path = folder.join(what);
         fs::write(&path, &ended.out).expect("a part");
         let other = path.to_str().expect("a plain name");
-        call_with(b"", &["sum", &first, other]).failed(1, what);
+        let ended = call_with(b"", &["sum", &first, other]);
+        ended.failed(1, what);
+        ended.failed(1, &format!("{first} and {other}: "));
     }
     let other = part(
         "other",
@@ -374,8 +408,17 @@ fn a_sweep_prints_what_each_rate_gives_and_draws_it() {
     assert_eq!(drawn, table);
     let drawn = fs::read_to_string(&svg).expect("a drawing");
     assert!(drawn.starts_with("<svg ") && drawn.trim_end().ends_with("</svg>"));
+    for words in [
+        "ghz.circuit: 3000 shots per point, seed 1",
+        "error rate per operation and qudit",
+    ] {
+        assert!(drawn.contains(words), "{words}");
+    }
     // With a model the rates are factors.
-    let factors = call(&format!("{} --model {MODEL}", sweep("0.5,1"))).done();
+    let factors = format!("{} --model {MODEL} --svg {name}", sweep("0.5,1"));
+    let factors = call(&factors).done();
+    let drawn = fs::read_to_string(&svg).expect("a drawing");
+    assert!(drawn.contains("factor of the model's error rates"));
     let figure = call(&format!("share {GHZ} --shots 3000 --model {MODEL}")).done();
     let unharmed = figure.lines().nth(1).expect("a share");
     let count = unharmed.split_whitespace().nth(1).expect("a count");
@@ -408,7 +451,7 @@ fn damaged_input_writes_nothing() {
         "others 0.6",
         &[GHZ, "--model", "-", "--sweep", "1,2", "--svg", name],
     )
-    .failed(1, "2");
+    .failed(2, "--sweep: ");
     let part = call(&format!("share {GHZ} --error 0.1 --shots 10 --shard 1/1")).done();
     let sum = |part: &str| call_with(part.as_bytes(), &["sum", "-"]);
     sum(&part).done();
@@ -540,7 +583,9 @@ fn a_wrong_command_line_does_nothing() {
         ("", "usage: cagvost COMMAND"),
         ("walk", "there is no command 'walk'"),
         ("help walk", "there is no command 'walk'"),
-        ("run", "it needs a circuit"),
+        ("help run extra", "there is no command 'help'"),
+        ("--version extra", "there is no command '--version'"),
+        ("run", "run: it needs a circuit"),
         ("run examples/paper.book examples/full.book", "nothing else"),
         (
             "run examples/paper.book --states",
@@ -553,7 +598,17 @@ fn a_wrong_command_line_does_nothing() {
             "--width is 'wide'",
         ),
         ("text examples/ghz.circuit -o", "-o needs a value"),
-        ("sum", "it needs"),
+        ("sum", "sum: it needs"),
+        ("share - --model -", "cannot both be standard input"),
+        (
+            "text examples/ghz.circuit -o x.book",
+            "x.book is a name for bytes",
+        ),
+        (
+            "mirror examples/circuit.book -o x.book",
+            "x.book is a name for bytes",
+        ),
+        ("text examples/ghz.circuit -o=", "-o needs a value"),
         ("sum examples/missing", "examples/missing: "),
         ("share examples/ghz.circuit", "--error P or --model FILE"),
         ("share --error 0.1", "it needs a circuit"),
@@ -573,7 +628,7 @@ fn a_wrong_command_line_does_nothing() {
         ),
         (
             "share examples/ghz.circuit --error 0.1 --shots 0",
-            "--shots should be 1 or more",
+            "--shots is '0'",
         ),
         (
             "share examples/ghz.circuit --error 0.1 --shots 1e3",
@@ -618,6 +673,39 @@ fn a_wrong_command_line_does_nothing() {
     ] {
         call(line).failed(2, words);
     }
+}
+
+/// What follows `--` is a name, whatever it looks like.
+#[test]
+fn names_may_look_like_options() {
+    call("run -- --help").failed(2, "--help: ");
+    call("run -- -h").failed(2, "-h: ");
+}
+
+/// A status is given also where nothing can be said.
+#[test]
+fn a_full_standard_error_is_no_crash() {
+    let status = |words: &[&str]| {
+        let full = File::options().write(true).open("/dev/full").ok()?;
+        let mut command = Command::new(env!("CARGO_BIN_EXE_cagvost"));
+        let command = command.args(words).current_dir(top());
+        let ended = command.stdout(Stdio::null()).stderr(full).status();
+        ended.expect("the command").code()
+    };
+    if File::options().write(true).open("/dev/full").is_err() {
+        return; // there is no such device here
+    }
+    assert_eq!(status(&["run", "examples/missing.book"]), Some(2));
+    assert_eq!(status(&["run", "examples/refused_5.book"]), Some(1));
+    let share = [
+        "share",
+        "examples/paper.book",
+        "--error",
+        "0.1",
+        "--shots",
+        "9",
+    ];
+    assert_eq!(status(&share), Some(0));
 }
 
 /// A listing that cannot be written is no success.

@@ -110,6 +110,26 @@ fn names_are_aligned() {
     );
 }
 
+/// Ten lines have names of one digit.
+#[test]
+fn the_names_of_ten_lines() {
+    let text = drawn("qudits 10 dimension 3, fourier 9");
+    assert_eq!(text.lines().last(), Some("q9 ─F─"));
+}
+
+/// A gate crosses a line where nothing stands on it, also in front of what came before.
+#[test]
+fn a_gap_is_crossed() {
+    assert_eq!(
+        drawn("qudits 5 dimension 3, phase 4, phase 4, cz 1 4, cz 0 2"),
+        "q0 ─●─────\n\
+         q1 ─│───●─\n\
+         q2 ─●───│─\n\
+         q3 ─────│─\n\
+         q4 ─S─S─●─\n"
+    );
+}
+
 #[test]
 fn circuits_without_operations() {
     assert_eq!(Book::new(3, 2).drawing().to_string(), "q0 ─\nq1 ─\n");
@@ -131,6 +151,12 @@ fn blocks_of_a_limited_width() {
     let each = "q0 ─F─\nq1 ───\n\nq0 ─●─\nq1 ─⊕─\n\nq0 ─S^2─\nq1 ─────\n\n\
                 q0 ─×─\nq1 ─×─\n\nq0 ────\nq1 ─M0─\n";
     assert_eq!([1, 6].map(drawn), [each; 2]);
+    // The second block is as wide as the first, and as wide as it may be.
+    let book: Book = "qudits 1 dimension 3\nfourier 0\nphase 0\nfourier 0\nphase 0"
+        .parse()
+        .expect("a circuit");
+    let even = "q0 ─F─S─\n\nq0 ─F─S─\n";
+    assert_eq!(book.drawing().width(8).to_string(), even);
 }
 
 // ---- Reading a drawing

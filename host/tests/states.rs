@@ -338,6 +338,25 @@ fn words_of_frames_and_results() {
     );
     // In a table of results the words keep their columns.
     assert_eq!(format!("{:>10}|", Verdict::Clean), "     clean|");
+    assert_eq!(format!("{:<8}|", Mark::Free), "free    |");
+    let (x, z) = (vec![1], vec![0]);
+    assert_eq!(
+        format!(
+            "{:>4}|",
+            Frame {
+                x: x.clone(),
+                z: z.clone()
+            }
+        ),
+        "  X0|"
+    );
+    assert_eq!(format!("{:>6}|", Row { phase: 1, x, z }), "  ω X0|");
+    let outcome = Outcome {
+        qudit: 0,
+        value: 2,
+        mark: Mark::Free,
+    };
+    assert_eq!(format!("{outcome:>8}|"), "  free 2|");
 }
 
 #[test]
@@ -352,7 +371,30 @@ fn no_stabilizer_past_the_last() {
     Tableau::zero(3, 2).expect("a tableau").stabilizer(2);
 }
 
+/// The rows stand one below the other, also where the last name is longer.
+#[test]
+fn rows_are_aligned() {
+    let text = Tableau::zero(3, 11).expect("a tableau").to_string();
+    let lines = Vec::from_iter(text.lines());
+    let some = [lines[0], lines[10], lines[11], lines[21]];
+    let expected = [
+        "destabilizer 0   X0",
+        "destabilizer 10  X10",
+        "stabilizer 0     Z0",
+        "stabilizer 10    Z10",
+    ];
+    assert_eq!(some, expected);
+}
+
 // ---- Refusals
+
+/// A number of qudits that no tableau has, also one whose bytes could not be counted.
+#[test]
+fn no_tableau_of_too_many_qudits() {
+    for n in [0, 65, 1 << 40, usize::MAX] {
+        assert_eq!(Tableau::zero(3, n), Err(Refusal::QuditCount), "{n}");
+    }
+}
 
 #[test]
 fn zero_tableaus() {

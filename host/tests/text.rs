@@ -170,6 +170,17 @@ fn an_entry_is_an_operation_or_none() {
     assert_eq!(operations, 3 * 64 + 2 * 512 + 64 + 8);
 }
 
+/// Measurements are counted among the operations, whatever choices there are.
+#[test]
+fn measurements_and_choices_are_counted_apart() {
+    let mut book = Book::new(3, 2);
+    book.operation(Operation::Measure { q: 1 });
+    assert_eq!((book.measurements(), book.choices().len()), (1, 0));
+    book.choice(2).choice(0);
+    assert_eq!((book.measurements(), book.choices().len()), (1, 2));
+    assert_eq!(book.write(), Err(Refusal::Choice { index: 1 }));
+}
+
 #[test]
 fn the_stored_books_come_back() {
     let mut accepted = 0;
@@ -310,6 +321,44 @@ fn a_text_that_cannot_be_read_says_where() {
             "the number of qudits",
             "'-3'",
         ),
+        (
+            "qudits +3 dimension 5",
+            1,
+            8,
+            "the number of qudits",
+            "'+3'",
+        ),
+        (
+            "qudits \u{b2} dimension 5",
+            1,
+            8,
+            "the number of qudits",
+            "'\u{b2}'",
+        ),
+        (
+            "qudits \u{663} dimension 5",
+            1,
+            8,
+            "the number of qudits",
+            "'\u{663}'",
+        ),
+        (
+            "\u{feff}\u{feff}qudits 3 dimension 5",
+            1,
+            1,
+            HEADER,
+            "'\u{feff}qudits'",
+        ),
+        (
+            "{}\nfourier 0\u{feff}",
+            2,
+            9,
+            "the qudit's number",
+            "'0\u{feff}'",
+        ),
+        ("{}\nswap", 2, 5, "the qudit's number", end),
+        ("{}\nswap 0", 2, 7, "the other qudit's number", end),
+        ("{}\nfo\u{9b}0", 2, 1, OPERATION, "'fo\\u{9b}0'"),
         ("qudits 3 5", 1, 10, "'dimension'", "'5'"),
         ("qudits 3 dimension # 5", 1, 19, "the dimension", end),
         ("qudits 3 dimension 5 7", 1, 22, end, "'7'"),
@@ -480,6 +529,25 @@ fn a_refusal_names_its_line() {
             "measure 1 choose 5",
             Refusal::Choice { index: 1 },
         ),
+        // Good entries of the same kind, before and behind it.
+        (
+            "{}\nfourier 0\nfourier 3\nfourier 1\nfourier 4",
+            3,
+            "fourier 3",
+            Refusal::Operation { index: 1 },
+        ),
+        (
+            "{}\nerror 0 x\nfourier 0\nerror 3 x\nerror 1 x\nfourier 0\nerror 4 x",
+            4,
+            "error 3 x",
+            Refusal::ErrorEntry { index: 1 },
+        ),
+        (
+            "{}\nmeasure 0\nmeasure 1 choose 5\nfourier 0\nmeasure 1\nmeasure 2 choose 6",
+            3,
+            "measure 1 choose 5",
+            Refusal::Choice { index: 1 },
+        ),
         // The first by the order of the numbers, not of the lines.
         (
             "{}\nmeasure 0 choose 9\nerror 9 x\nsum 0 0",
@@ -570,6 +638,7 @@ fn a_text_may_be_too_long() {
     assert_eq!(refused(&lines("error 0 x", MAX_ERRORS)), None);
     let beyond = (MAX_ERRORS + 3, Refusal::Contents { entry: 1 });
     assert_eq!(refused(&lines("error 0 x", MAX_ERRORS + 1)), Some(beyond));
+    assert_eq!(refused(&lines("error 0 x", MAX_ERRORS + 9)), Some(beyond));
 }
 
 #[test]
@@ -585,4 +654,5 @@ fn the_messages_say_what_and_where() {
         "{refused}"
     );
     assert_eq!(parse("qudits 2 dimension 3\n\n\nx").unwrap_err().line(), 4);
+    assert!(says(&"x".repeat(1_000_000)).len() < 200);
 }

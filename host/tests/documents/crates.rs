@@ -153,7 +153,7 @@ fn decided() -> Vec<usize> {
 /// Every text of the repository.
 fn sources() -> Vec<String> {
     let endings = [".md", ".rs", ".rt", ".antt", ".edit"];
-    let mut sources = ["README.md", "crates.txt", "test", "simulate"]
+    let mut sources = ["README.md", "crates.txt", "test", "simulate", "cagvost"]
         .map(String::from)
         .to_vec();
     for folder in ["docs", "crates", "host", "examples"] {

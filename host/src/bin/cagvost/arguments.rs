@@ -13,22 +13,23 @@ pub struct Arguments {
 impl Arguments {
     /// Sorts the words. An option's value is the next word or, behind `=`, a part of the same one.
     /// After `--` there are no options.
-    pub fn read(words: &[String], values: &[&str], flags: &[&str]) -> Result<Arguments, String> {
+    pub fn read(words: &[&str], values: &[&str], flags: &[&str]) -> Result<Arguments, String> {
         let (mut options, mut names) = (Vec::<(String, Option<String>)>::new(), Vec::new());
-        let mut words = words.iter();
+        let mut words = words.iter().copied();
         while let Some(word) = words.next() {
             if word == "--" {
-                names.extend(words.by_ref().cloned());
+                names.extend(words.by_ref().map(str::to_string));
             } else if word == "-" || !word.starts_with('-') {
-                names.push(word.clone());
+                names.push(word.to_string());
             } else {
                 let (name, joined) = match word.split_once('=') {
-                    Some((name, value)) => (name, Some(value.to_string())),
-                    None => (word.as_str(), None),
+                    Some((name, value)) => (name, Some(value)),
+                    None => (word, None),
                 };
                 let value = if values.contains(&name) {
-                    let value = joined.or_else(|| words.next().cloned());
-                    Some(value.ok_or(format!("{name} needs a value"))?)
+                    let value = joined.or_else(|| words.next());
+                    let value = value.filter(|value| !value.is_empty());
+                    Some(value.ok_or(format!("{name} needs a value"))?.to_string())
                 } else if flags.contains(&name) && joined.is_none() {
                     None
                 } else {
@@ -78,7 +79,7 @@ mod tests {
     use super::*;
 
     fn read(line: &str) -> Result<Arguments, String> {
-        let words: Vec<String> = line.split(' ').map(String::from).collect();
+        let words: Vec<&str> = line.split(' ').collect();
         Arguments::read(&words, &["--shots", "-o"], &["--state"])
     }
 
@@ -100,6 +101,7 @@ mod tests {
             ("a --shot 12", "there is no option --shot"),
             ("a --state=1", "there is no option --state=1"),
             ("a --shots", "--shots needs a value"),
+            ("a --shots=", "--shots needs a value"),
             ("--state --state", "--state is given twice"),
             ("--shots 1 --shots=2", "--shots is given twice"),
         ] {

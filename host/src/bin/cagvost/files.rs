@@ -3,8 +3,10 @@
 use crate::{Done, Failure};
 use cagvost::book::Book;
 use cagvost::{Refusal, TextError};
-use std::fs;
+use std::fs::{self, File};
 use std::io::{self, Read, Write};
+use std::path::{Path, PathBuf};
+use std::process;
 
 /// Standard input.
 const STANDARD: &str = "-";
@@ -17,14 +19,20 @@ pub fn called(name: &str) -> &str {
     }
 }
 
+/// Nothing that is read here is longer: a full circuit has some 100 KiB of text.
+const MOST_BYTES: u64 = 64 << 20;
+
 fn bytes(name: &str) -> Result<Vec<u8>, Failure> {
     let mut bytes = Vec::new();
     let read = match name {
-        STANDARD => io::stdin().lock().read_to_end(&mut bytes).map(drop),
-        name => fs::read(name).map(|read| bytes = read),
+        STANDARD => io::stdin().lock().take(MOST_BYTES).read_to_end(&mut bytes),
+        name => File::open(name).and_then(|file| file.take(MOST_BYTES).read_to_end(&mut bytes)),
     };
     read.map_err(|error| Failure::from((called(name), error)))?;
-    Ok(bytes)
+    match bytes.len() as u64 == MOST_BYTES {
+        true => Err(refused(name, &"it is too long, 64 MiB or more")),
+        false => Ok(bytes),
+    }
 }
 
 /// A text, or what is refused of it: its bytes are no UTF-8.
@@ -35,8 +43,11 @@ pub fn text(name: &str) -> Result<String, Failure> {
 fn decoded(bytes: Vec<u8>) -> Result<String, String> {
     String::from_utf8(bytes).map_err(|error| {
         let good = &error.as_bytes()[..error.utf8_error().valid_up_to()];
-        let line = 1 + good.iter().filter(|&&byte| byte == b'\n').count();
-        format!("line {line}: expected text, found a byte that is no UTF-8")
+        let good = String::from_utf8_lossy(good);
+        let (before, last) = good.rsplit_once('\n').unwrap_or(("", &good));
+        let line = 1 + usize::from(good.contains('\n')) + before.matches('\n').count();
+        let column = 1 + last.chars().count();
+        format!("line {line}, column {column}: expected text, found a byte that is no UTF-8")
     })
 }
 
@@ -75,13 +86,18 @@ impl Bad {
 /// Reads a circuit, as a book or as a text.
 pub fn read_circuit(name: &str) -> Result<Result<Book, Bad>, Failure> {
     let bytes = bytes(name)?;
-    if name.ends_with(".book") || bytes.iter().any(is_control) {
+    if is_book(name) || bytes.iter().any(is_control) {
         return Ok(Book::from_bytes(&bytes).map_err(Bad::Book));
     }
     Ok(match decoded(bytes) {
         Ok(text) => text.parse().map_err(Bad::Text),
         Err(why) => Err(Bad::Bytes(why)),
     })
+}
+
+/// Whether a file of this name is read as bytes.
+pub fn is_book(name: &str) -> bool {
+    name.ends_with(".book")
 }
 
 /// Whether a byte is one that no text has. Every accepted book has such bytes: the fourth is 3.
@@ -101,7 +117,25 @@ pub fn print(bytes: &[u8]) -> Done {
     written.map_err(|error| Failure::from(("standard output", error)))
 }
 
-/// Writes to the file of this name.
+/// Writes to the file of this name. If that fails, a file that was there is kept.
 pub fn save(name: &str, bytes: &[u8]) -> Done {
-    fs::write(name, bytes).map_err(|error| Failure::from((name, error)))
+    // What a link leads to, if it leads to something.
+    let path = fs::canonicalize(name).unwrap_or_else(|_| PathBuf::from(name));
+    let is_new_or_file = path.is_file() || !path.exists();
+    let written = match is_new_or_file {
+        true => replace(&path, bytes),
+        false => fs::write(&path, bytes), // a device
+    };
+    written.map_err(|error| Failure::from((name, error)))
+}
+
+/// Writes a file beside the one of this name, and puts it in its place.
+fn replace(path: &Path, bytes: &[u8]) -> io::Result<()> {
+    let mut beside = path.as_os_str().to_owned();
+    beside.push(format!(".{}", process::id()));
+    let written = fs::write(&beside, bytes).and_then(|()| fs::rename(&beside, path));
+    if written.is_err() {
+        _ = fs::remove_file(&beside); // it may not be there
+    }
+    written
 }

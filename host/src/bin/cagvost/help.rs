@@ -4,7 +4,7 @@ macro_rules! circuits {
     () => {
         "\
 CIRCUIT is a file with a circuit, as text or as the bytes of a shot book, or - for standard input.
-Bytes are what is in a file NAME.book, and whatever has control characters.
+A file NAME.book, and any input with control characters, is read as bytes.
 "
     };
 }
@@ -12,8 +12,8 @@ Bytes are what is in a file NAME.book, and whatever has control characters.
 macro_rules! statuses {
     () => {
         "
-Exit status: 0 done; 1 what was handed in is refused; 2 nothing was done or written: the command
-line is wrong, or a file cannot be read or written. Standard error says why.
+Exit status: 0 done; 1 what was handed in is refused; 2 the command line is wrong, or something
+cannot be read or written. Standard error says why.
 "
     };
 }
@@ -30,13 +30,13 @@ usage: cagvost COMMAND ..
   book CIRCUIT      writes a circuit as the bytes of a shot book
   mirror CIRCUIT    writes the circuit that undoes a circuit
   share CIRCUIT     the share of shots that drawn errors leave unharmed, with its interval
-  sum PART..        adds the parts of a share that were counted by themselves
+  sum PART..        adds the parts of a share that were counted separately
   help COMMAND      says more of one of them
 
 ",
     circuits!(),
     "
-    # two qutrits are entangled and measured
+    # two qutrits are entangled and measured; `cagvost help text` has all lines
     qudits 2 dimension 3
     fourier 0
     sum 0 1
@@ -87,7 +87,13 @@ pub const TEXT: &str = concat!(
     "\
 usage: cagvost text CIRCUIT [-o FILE]
 
-Writes the circuit as text, to FILE or to standard output.
+Writes the circuit as text, to FILE or to standard output. The lines of a text are, with C, T and Q
+for the numbers of qudits, which are counted from 0:
+
+",
+    include_str!("../../lines.txt"),
+    "
+Words may be in small or large letters.
 
 ",
     circuits!(),

@@ -10,21 +10,30 @@ mod share;
 mod sum;
 
 use arguments::Arguments;
-use std::io;
+use std::io::{self, Write};
 use std::process::ExitCode;
 
 /// Why a command did not do its work.
 enum Failure {
     /// A circuit, a model or a part was refused: status 1.
     Refused(String),
-    /// The command line is wrong, or a file cannot be read or written: status 2.
-    Nothing(String),
+    /// The command line is wrong: status 2.
+    Usage(String),
+    /// Something could not be read or written: status 2.
+    File(String),
+}
+
+/// What is wrong with the words of a command line.
+impl From<String> for Failure {
+    fn from(words: String) -> Failure {
+        Failure::Usage(words)
+    }
 }
 
 /// A file that cannot be read or written.
 impl From<(&str, io::Error)> for Failure {
     fn from((name, error): (&str, io::Error)) -> Failure {
-        Failure::Nothing(format!("{name}: {error}"))
+        Failure::File(format!("{name}: {error}"))
     }
 }
 
@@ -101,51 +110,50 @@ const COMMANDS: [Command; 7] = [
 ];
 
 fn main() -> ExitCode {
-    let words: Vec<String> = match std::env::args_os()
+    let words: Result<Vec<String>, _> = std::env::args_os()
         .skip(1)
-        .map(|w| w.into_string())
-        .collect()
-    {
-        Ok(words) => words,
-        Err(word) => return ended(unusable(&word.to_string_lossy())),
-    };
-    ended(match words.first().map(String::as_str) {
-        None => Err(Failure::Nothing(format!("no command\n\n{}", help::ALL))),
-        Some("help" | "--help" | "-h") => help_of(words.get(1)),
-        Some("--version" | "-V") => {
-            files::print(concat!("cagvost ", env!("CARGO_PKG_VERSION"), "\n").as_bytes())
-        }
-        Some(name) => find(name).and_then(|command| execute(command, &words[1..])),
+        .map(|word| word.into_string())
+        .collect();
+    ended(match words {
+        Ok(words) => understood(&words),
+        Err(word) => Err(Failure::Usage(format!("{word:?} is not UTF-8"))),
     })
 }
 
-fn execute(command: &Command, words: &[String]) -> Done {
-    if words.iter().any(|word| word == "--help" || word == "-h") {
-        return files::print(command.help.as_bytes());
+fn understood(words: &[String]) -> Done {
+    let words: Vec<&str> = words.iter().map(String::as_str).collect();
+    match words[..] {
+        [] => Err(Failure::Usage(format!("no command\n\n{}", help::ALL))),
+        ["help" | "--help" | "-h"] => files::print(help::ALL.as_bytes()),
+        ["help", name] => files::print(find(name)?.help.as_bytes()),
+        ["--version" | "-V"] => {
+            files::print(concat!("cagvost ", env!("CARGO_PKG_VERSION"), "\n").as_bytes())
+        }
+        [name, ref rest @ ..] => execute(find(name)?, rest),
     }
-    let arguments = Arguments::read(words, command.values, command.flags);
-    let arguments = arguments.map_err(|what| {
-        let name = command.name;
-        Failure::Nothing(format!("{name}: {what}; `cagvost {name} --help` says more"))
-    })?;
-    (command.work)(&arguments)
-}
-
-fn help_of(name: Option<&String>) -> Done {
-    let text = match name {
-        None => help::ALL,
-        Some(name) => find(name)?.help,
-    };
-    files::print(text.as_bytes())
 }
 
 fn find(name: &str) -> Result<&'static Command, Failure> {
     let found = COMMANDS.iter().find(|command| command.name == name);
-    found.ok_or_else(|| Failure::Nothing(format!("there is no command '{name}'\n\n{}", help::ALL)))
+    found.ok_or_else(|| Failure::Usage(format!("there is no command '{name}'\n\n{}", help::ALL)))
 }
 
-fn unusable(word: &str) -> Done {
-    Err(Failure::Nothing(format!("'{word}' is not UTF-8")))
+fn execute(command: &Command, words: &[&str]) -> Done {
+    let mut options = words.iter().take_while(|word| **word != "--");
+    if options.any(|word| *word == "--help" || *word == "-h") {
+        return files::print(command.help.as_bytes());
+    }
+    let arguments = Arguments::read(words, command.values, command.flags);
+    let done = arguments
+        .map_err(Failure::Usage)
+        .and_then(|arguments| (command.work)(&arguments));
+    done.map_err(|failure| match failure {
+        Failure::Usage(what) => {
+            let name = command.name;
+            Failure::Usage(format!("{name}: {what}; `cagvost {name} --help` says more"))
+        }
+        other => other,
+    })
 }
 
 /// Says what went wrong and ends with its status.
@@ -153,8 +161,13 @@ fn ended(done: Done) -> ExitCode {
     let (status, words) = match done {
         Ok(()) => return ExitCode::SUCCESS,
         Err(Failure::Refused(words)) => (1, words),
-        Err(Failure::Nothing(words)) => (2, words),
+        Err(Failure::Usage(words) | Failure::File(words)) => (2, words),
     };
-    eprintln!("cagvost: {}", words.trim_end());
+    say(words.trim_end());
     ExitCode::from(status)
+}
+
+/// A line on standard error. That it cannot be written changes no status.
+fn say(words: &str) {
+    _ = writeln!(io::stderr(), "cagvost: {words}");
 }

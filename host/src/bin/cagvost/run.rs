@@ -1,14 +1,14 @@
 //! The listing of a run.
 
 use crate::arguments::Arguments;
-use crate::{Done, Failure, files};
+use crate::{Done, files};
 use cagvost::book::Book;
-use cagvost::{Outcome, Simulation, Tableau, Verdict};
+use cagvost::{Outcome, Simulation, Tableau};
 use std::fmt::Write;
 
 /// The program's listing for the frame run of a circuit; its first lines for the direct run.
 pub fn run(arguments: &Arguments) -> Done {
-    let name = arguments.only_name("a circuit").map_err(Failure::Nothing)?;
+    let name = arguments.only_name("a circuit")?;
     let book = match files::read_circuit(name)? {
         Ok(book) => book,
         Err(bad) => {
@@ -30,11 +30,7 @@ pub fn run(arguments: &Arguments) -> Done {
         head(&mut listing, &book, &end.outcomes);
         let shifts: Vec<String> = end.shifts.iter().map(u8::to_string).collect();
         line(&mut listing, format_args!("shift {}", shifts.join(" ")));
-        let verdict = match end.verdict {
-            Verdict::Clean => "clean",
-            Verdict::Shifted => "shifted",
-        };
-        line(&mut listing, format_args!("verdict {verdict}"));
+        line(&mut listing, format_args!("verdict {}", end.verdict));
         end.tableau
     };
     if arguments.has("--state") {

@@ -7,7 +7,7 @@ use cagvost::book::Book;
 use cagvost::share::{
     self, Counts, Curve, ErrorModel, Part, Point, Probability, Shard, Share, Sweep,
 };
-use std::num::NonZeroUsize;
+use std::num::{NonZeroU64, NonZeroUsize};
 use std::ops::Range;
 use std::path::Path;
 
@@ -15,22 +15,20 @@ use std::path::Path;
 const SHOTS: u64 = 100_000;
 const SEED: u64 = 1;
 
-const NO_RATES: &str = "it needs the error rates: --error P or --model FILE";
-
 pub fn share(arguments: &Arguments) -> Done {
-    consistent(arguments).map_err(Failure::Nothing)?;
+    consistent(arguments)?;
+    let sweep = arguments.parsed::<Sweep>("--sweep", "rates as in 0.001,0.01 or 0.001:0.1:9")?;
+    let shard = arguments.parsed::<Shard>("--shard", "I/N, with I from 1 to N")?;
+    let model = model(arguments)?;
     let request = Request::read(arguments)?;
-    let sweep = arguments.parsed::<Sweep>("--sweep", "rates as in 0.001,0.01 or 0.001:0.1:9");
-    let shard = arguments.parsed::<Shard>("--shard", "I/N, with I from 1 to N");
-    let (sweep, shard) = (
-        sweep.map_err(Failure::Nothing)?,
-        shard.map_err(Failure::Nothing)?,
-    );
     request.say_unused_errors();
-    match (sweep, shard) {
-        (Some(sweep), _) => request.sweep(&sweep, arguments.value("--svg")),
-        (None, Some(shard)) => request.part(shard),
-        (None, None) => request.figure(),
+    match (sweep, model) {
+        (Some(sweep), model) => request.sweep(&sweep, model.as_ref(), arguments.value("--svg")),
+        (None, Some(model)) => request.once(&model, shard),
+        (None, None) => {
+            let words = "it needs the error rates: --error P or --model FILE";
+            Err(Failure::Usage(words.to_string()))
+        }
     }
 }
 
@@ -39,9 +37,6 @@ fn consistent(arguments: &Arguments) -> Result<(), String> {
     let has = |name| arguments.has(name);
     if has("--error") && has("--model") {
         return Err("--error and --model exclude each other".to_string());
-    }
-    if !has("--error") && !has("--model") && !has("--sweep") {
-        return Err(NO_RATES.to_string());
     }
     if has("--error") && has("--sweep") {
         return Err("--sweep has the rates, so there is no --error".to_string());
@@ -52,86 +47,57 @@ fn consistent(arguments: &Arguments) -> Result<(), String> {
     if has("--svg") && !has("--sweep") {
         return Err("--svg draws what --sweep counts, and there is no --sweep".to_string());
     }
+    if arguments.value("--model") == Some("-") && arguments.names.iter().any(|name| name == "-") {
+        return Err("circuit and model cannot both be standard input".to_string());
+    }
     Ok(())
+}
+
+/// The model that is named, or the one that has the same rate for every operation.
+fn model(arguments: &Arguments) -> Result<Option<ErrorModel>, Failure> {
+    if let Some(name) = arguments.value("--model") {
+        let model = files::text(name)?.parse();
+        return model
+            .map(Some)
+            .map_err(|error| files::refused(name, &error));
+    }
+    let rate = arguments.parsed("--error", "a probability from 0 to 1")?;
+    Ok(rate.map(ErrorModel::uniform))
+}
+
+/// The model at a rate of a sweep, which multiplies the rates of a model or stands for all of them.
+fn model_at(rate: f64, model: Option<&ErrorModel>) -> Result<ErrorModel, Failure> {
+    let at = match model {
+        Some(model) => model.scaled(rate).map_err(|error| error.to_string()),
+        None => Probability::new(rate)
+            .map(ErrorModel::uniform)
+            .ok_or(format!("{rate} is no probability")),
+    };
+    at.map_err(|what| Failure::Usage(format!("--sweep: {what}")))
 }
 
 /// What is asked for, whatever is printed of it.
 struct Request<'a> {
     name: &'a str,
     book: Book,
-    model: Model,
     shots: u64,
     seed: u64,
     threads: NonZeroUsize,
 }
 
-/// Where the probabilities come from. In a sweep its rates are these, or multiply them.
-enum Model {
-    Swept,
-    Given(ErrorModel),
-}
-
-impl Model {
-    fn read(arguments: &Arguments) -> Result<Model, Failure> {
-        if let Some(name) = arguments.value("--model") {
-            let model = files::text(name)?.parse();
-            return model
-                .map(Model::Given)
-                .map_err(|error| files::refused(name, &error));
-        }
-        let rate = arguments.parsed("--error", "a probability from 0 to 1");
-        let uniform = |rate| Model::Given(ErrorModel::uniform(rate));
-        Ok(rate
-            .map_err(Failure::Nothing)?
-            .map_or(Model::Swept, uniform))
-    }
-
-    /// The model at a rate of a sweep.
-    fn at(&self, rate: f64) -> Result<ErrorModel, Failure> {
-        match self {
-            Model::Given(model) => model
-                .scaled(rate)
-                .map_err(|error| Failure::Refused(format!("--sweep: {error}"))),
-            Model::Swept => Probability::new(rate)
-                .map(ErrorModel::uniform)
-                .ok_or_else(|| {
-                    Failure::Nothing(format!("--sweep has {rate}, which is no probability"))
-                }),
-        }
-    }
-
-    /// What the rates of a sweep are.
-    fn rate_name(&self) -> &'static str {
-        match self {
-            Model::Given(_) => "factor of the model's error rates",
-            Model::Swept => "error rate per operation and qudit",
-        }
-    }
-}
-
 impl<'a> Request<'a> {
     fn read(arguments: &'a Arguments) -> Result<Request<'a>, Failure> {
-        let name = arguments.only_name("a circuit").map_err(Failure::Nothing)?;
-        let number = |option, otherwise| {
-            let number = arguments.parsed(option, "a whole number");
-            number
-                .map(|number| number.unwrap_or(otherwise))
-                .map_err(Failure::Nothing)
-        };
-        let (shots, seed) = (number("--shots", SHOTS)?, number("--seed", SEED)?);
-        if shots == 0 {
-            return Err(Failure::Nothing("--shots should be 1 or more".to_string()));
-        }
-        let threads = arguments.parsed("--threads", "a number from 1 on");
+        let name = arguments.only_name("a circuit")?;
+        let shots = arguments.parsed("--shots", "a whole number from 1 on")?;
+        let shots = shots.map_or(SHOTS, NonZeroU64::get);
+        let seed = arguments.parsed("--seed", "a whole number")?;
+        let threads = arguments.parsed("--threads", "a whole number from 1 on")?;
         Ok(Request {
             name,
-            threads: threads
-                .map_err(Failure::Nothing)?
-                .unwrap_or_else(processors),
-            model: Model::read(arguments)?,
             book: files::circuit(name)?,
             shots,
-            seed,
+            seed: seed.unwrap_or(SEED),
+            threads: threads.unwrap_or_else(processors),
         })
     }
 
@@ -139,17 +105,14 @@ impl<'a> Request<'a> {
         let errors = self.book.errors().len();
         if errors > 0 {
             let name = files::called(self.name);
-            eprintln!(
-                "cagvost: {name}: its own errors ({errors}) are left out, since others are drawn"
-            );
+            crate::say(&format!(
+                "{name}: its own errors ({errors}) are left out, since others are drawn"
+            ));
         }
     }
 
-    /// The circuit under the model that is given.
-    fn share(&self) -> Result<Share, Failure> {
-        let Model::Given(model) = &self.model else {
-            return Err(Failure::Nothing(NO_RATES.to_string()));
-        };
+    /// The circuit under this model.
+    fn under(&self, model: &ErrorModel) -> Result<Share, Failure> {
         Share::new(&self.book, model).map_err(|why| files::refused(self.name, &why))
     }
 
@@ -160,43 +123,43 @@ impl<'a> Request<'a> {
         counts.map_err(|why| files::refused(self.name, &why))
     }
 
-    fn figure(&self) -> Done {
-        let share = self.share()?;
-        let counts = self.count(&share, 0..self.shots)?;
-        let figure = share.job(self.seed, self.shots).figure(counts);
-        files::print(figure.to_string().as_bytes())
-    }
-
-    fn part(&self, shard: Shard) -> Done {
-        let share = self.share()?;
-        let counts = self.count(&share, shard.range(self.shots))?;
+    /// The figure of all shots, or the part of it that is in a shard.
+    fn once(&self, model: &ErrorModel, shard: Option<Shard>) -> Done {
+        let share = self.under(model)?;
         let job = share.job(self.seed, self.shots);
-        files::print(Part { job, shard, counts }.to_string().as_bytes())
+        let shots = shard.unwrap_or(Shard::WHOLE).range(self.shots);
+        let counts = self.count(&share, shots)?;
+        let printed = match shard {
+            Some(shard) => Part { job, shard, counts }.to_string(),
+            None => job.figure(counts).to_string(),
+        };
+        files::print(printed.as_bytes())
     }
 
-    /// The table is printed first, so that a drawing that cannot be written costs no counts.
-    fn sweep(&self, sweep: &Sweep, svg: Option<&str>) -> Done {
-        let models = sweep.rates().iter().map(|&rate| self.model.at(rate));
+    /// The table is printed first, so that it is not lost if the drawing cannot be written.
+    fn sweep(&self, sweep: &Sweep, model: Option<&ErrorModel>, svg: Option<&str>) -> Done {
+        let models = sweep.rates().iter().map(|&rate| model_at(rate, model));
         let models: Vec<ErrorModel> = models.collect::<Result<_, _>>()?;
         let mut points = Vec::new();
         for (&rate, model) in sweep.rates().iter().zip(&models) {
-            let share = Share::new(&self.book, model);
-            let share = share.map_err(|why| files::refused(self.name, &why))?;
-            let counts = self.count(&share, 0..self.shots)?;
+            let counts = self.count(&self.under(model)?, 0..self.shots)?;
             points.push(Point { rate, counts });
         }
-        let measurements = self.book.measurements() as u64;
+        let (seed, measurements) = (self.seed, self.book.measurements() as u64);
         let curve = Curve {
-            seed: self.seed,
+            seed,
             measurements,
             points,
         };
         files::print(curve.to_string().as_bytes())?;
-        let drawing = |name| {
-            let drawing = share::svg(&curve, &self.title(), self.model.rate_name());
-            files::save(name, drawing.as_bytes())
+        let axis = match model {
+            Some(_) => "factor of the model's error rates",
+            None => "error rate per operation and qudit",
         };
-        svg.map_or(Ok(()), drawing)
+        match svg {
+            Some(name) => files::save(name, share::svg(&curve, &self.title(), axis).as_bytes()),
+            None => Ok(()),
+        }
     }
 
     /// What a drawing is of: the circuit's name and how much was drawn.

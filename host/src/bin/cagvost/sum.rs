@@ -6,8 +6,8 @@ use cagvost::share::{Part, SumError};
 
 pub fn sum(arguments: &Arguments) -> Done {
     if arguments.names.is_empty() {
-        let words = "sum: it needs the files that share --shard printed";
-        return Err(Failure::Nothing(words.to_string()));
+        let words = "it needs the files that share --shard printed";
+        return Err(Failure::Usage(words.to_string()));
     }
     let read = |name: &String| {
         let text = files::text(name)?;
