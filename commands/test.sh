@@ -221,15 +221,12 @@ should "the command finds a book from another folder" ended 0 "$top/examples/pap
 unset CDPATH
 cd "$top" || exit 1
 
-# On a terminal: a long count says how far it is, and bytes are not shown.
-is_a_figure() {
-    [ "$(wc -l < "$room/listing")" -eq 3 ] && ! grep -q ' of 20000000 shots, ' "$room/listing"
-}
+# On a terminal: a long count, which is stopped here, says how far it is; and bytes are not shown.
 if command -v script > /dev/null; then
-    script -qec "./cagvost share examples/ghz.circuit --error 0.01 --shots 20000000 --threads 1 > $room/listing" /dev/null > "$room/said" < /dev/null
+    script -qec "timeout 4 ./cagvost share examples/ghz.circuit --error 0.01 --shots 1000000000000 > $room/listing" /dev/null > "$room/said" < /dev/null
     status=$?
-    should "a long count says how far it is" grep -q ' of 20000000 shots, ' "$room/said"
-    should "this is not in what it prints" is_a_figure
+    should "a long count says how far it is" grep -q ' of 1000000000000 shots, 0 % ' "$room/said"
+    should "this is not in what it prints" [ ! -s "$room/listing" ]
     script -qec './cagvost book examples/paper.book' /dev/null > "$room/said" < /dev/null
     status=$?
     should "bytes are not shown on a terminal" grep -q 'not shown on a terminal' "$room/said"
