@@ -490,6 +490,8 @@ fn too_many_errors_are_refused() {
         &["share", "-", "--error", "1", "--shots", "5"],
     );
     ended.failed(1, "shot 0 has 2050 errors, and at most 2048");
+    let swept = ["share", "-", "--sweep", "0.01,1", "--shots", "5"];
+    call_with(text.as_bytes(), &swept).failed(1, "at the rate 1: standard input: shot 0 has 2050");
     let fewer = text.replacen("sum 0 1\n", "", 1);
     call_with(
         fewer.as_bytes(),

@@ -124,7 +124,15 @@ d   n  oper.  err.     least  median   least  median   least  median   least  me
     );
 }
 
-/// A circuit of full length and a small one, at several rates of errors.
+/// Five qudits in seven operations, as in examples/ghz.circuit.
+fn tiny(d: u8) -> Book {
+    let sums = "sum 0 1\nsum 1 2\nsum 2 3\nsum 0 4\nsum 3 4 ^2";
+    let text = format!("qudits 5 dimension {d}\nfourier 0\n{sums}\nmeasure 4");
+    text.parse().expect("a circuit")
+}
+
+/// A circuit of full length, a small and a tiny one, at several rates of errors. The last lines of
+/// the two small ones have rates of 0.1 and more.
 pub fn shares() {
     let threads = thread::available_parallelism().unwrap_or(NonZeroUsize::MIN);
     head(threads);
@@ -134,8 +142,11 @@ pub fn shares() {
         for errors in [0.4, 4.0, 41.0] {
             line(&format!("{d:<2} 64   4096"), &full, errors, threads);
         }
-        for errors in [0.4, 4.0] {
+        for errors in [0.4, 4.0, 40.0] {
             line(&format!("{d:<2}  8    100"), &small, errors, threads);
+        }
+        for errors in [0.1, 1.2] {
+            line(&format!("{d:<2}  5      7"), &tiny(d), errors, threads);
         }
     }
 }

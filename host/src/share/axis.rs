@@ -1,5 +1,6 @@
 //! The axes of a chart: their range, their ticks and where a value lies.
 
+use super::sweep::three_digits;
 use super::value::Decimal;
 
 /// An axis between two places of the drawing.
@@ -25,11 +26,10 @@ const MOST_TICKS: usize = 8;
 impl Axis {
     /// The axis of these rates, which rise.
     pub(super) fn of_rates(rates: &[f64], places: [f64; 2]) -> Axis {
-        let (first, last) = match rates {
-            [] => (0.0, 1.0),
-            [0.0] => (0.0, 1.0),
-            [one] => (0.5 * one, 1.5 * one),
-            [first, .., last] => (*first, *last),
+        let (first, last) = match (rates.first(), rates.last()) {
+            (Some(&first), Some(&last)) if first < last => (first, last),
+            (Some(&one), _) if one > 0.0 => (0.5 * one, 1.5 * one),
+            _ => (0.0, 1.0),
         };
         if first > 0.0 && last >= WIDE * first {
             let margin = (last / first).powf(MARGIN);
@@ -99,7 +99,12 @@ fn ticks([from, to]: [f64; 2], step: f64) -> Vec<(f64, String)> {
     let decimals = (-(step * 1.000001).log10().floor()).max(0.0) as usize;
     let first = (from / step - 1e-6).ceil() as i64;
     let last = (to / step + 1e-6).floor() as i64;
-    let tick = |i| (i as f64 * step, format!("{:.decimals$}", i as f64 * step));
+    let label = |value: f64| match decimals {
+        // Long numbers are written with their power of ten, rounded as the step is.
+        _ if step >= 1e6 || decimals > 9 => format!("{}", Decimal(three_digits(value))),
+        _ => format!("{value:.decimals$}"),
+    };
+    let tick = |i| (i as f64 * step, label(i as f64 * step));
     (first..=last).map(tick).collect()
 }
 

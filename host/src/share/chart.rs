@@ -11,7 +11,7 @@ const WIDTH: f64 = 720.0;
 const HEIGHT: f64 = 480.0;
 
 /// The edges of the field in which the curves are.
-const LEFT: f64 = 84.0;
+const LEFT: f64 = 96.0;
 const RIGHT: f64 = 696.0;
 const TOP: f64 = 92.0;
 const BOTTOM: f64 = 418.0;
@@ -206,7 +206,7 @@ fn grid(x: &Axis, y: &Axis) -> String {
 /// What the bars and the axes are. An axis that does not begin at 0 says so.
 fn labels(y: &Axis, rate: &str) -> String {
     let (middle, below) = ((LEFT + RIGHT) / 2.0, BOTTOM + 48.0);
-    let (beside, half) = (24.0, (TOP + BOTTOM) / 2.0);
+    let (beside, half) = (16.0, (TOP + BOTTOM) / 2.0);
     let share = match y.first() {
         0.0 => "share of shots",
         _ => "share of shots (axis not from 0)",

@@ -148,6 +148,7 @@ impl Share {
         trays: &Trays,
         tell: &(dyn Fn(u64) + Sync),
     ) -> Result<Counts, ShareError> {
+        let _stop = StopInPanic(trays);
         let mut lent = Lent::default();
         let mut sum = Counts::default();
         while let Some(shots) = trays.next() {
@@ -190,6 +191,17 @@ struct Lent {
     tray: Tray,
     bytes: Vec<u8>,
     out: Vec<u8>,
+}
+
+/// In a thread that panics no further trays are handed out, since nobody will have the counts.
+struct StopInPanic<'a>(&'a Trays);
+
+impl Drop for StopInPanic<'_> {
+    fn drop(&mut self) {
+        if thread::panicking() {
+            self.0.stop();
+        }
+    }
 }
 
 /// What a thread ended with. If it panicked, so does this one.

@@ -1,7 +1,7 @@
 //! The figure: what is printed of the counts.
 
 use super::counts::Counts;
-use super::interval::Interval;
+use super::interval::{Interval, decimals};
 use std::fmt;
 
 /// The counts of a whole job, for printing.
@@ -73,8 +73,11 @@ impl fmt::Display for ShareOf {
     fn fmt(&self, f: &mut fmt::Formatter<'_>) -> fmt::Result {
         match Interval::wilson(self.count, self.shots) {
             Some(interval) => {
-                let share = share(self.count, self.shots);
-                write!(f, "share {share:.6}   95 % interval {interval}")
+                let (share, digits) = (share(self.count, self.shots), decimals(self.shots));
+                write!(
+                    f,
+                    "share {share:.digits$}   95 % interval {interval:.digits$}"
+                )
             }
             None => write!(f, "no share, as there are no shots"),
         }
@@ -116,6 +119,21 @@ mod tests {
                 "every result unharmed     -   the circuit has no measurements",
             ]
         );
+    }
+
+    /// One shot of many millions shows in the share.
+    #[test]
+    fn many_shots_have_more_decimals() {
+        let counts = Counts {
+            shots: 10_000_000,
+            unharmed: 9_999_999,
+            results_unharmed: 10_000_000,
+        };
+        let lines = lines(counts, 1);
+        let unharmed = "9999999   share 0.99999990   95 % interval 0.99999943 to 0.99999998";
+        assert!(lines[1].ends_with(unharmed), "{}", lines[1]);
+        let all = "10000000   share 1.00000000   95 % interval 0.99999962 to 1.00000000";
+        assert!(lines[2].ends_with(all), "{}", lines[2]);
     }
 
     #[test]

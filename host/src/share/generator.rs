@@ -64,7 +64,8 @@ impl Generator {
     /// the four from number 4i on for its state. They are four different numbers, so that the state
     /// is never all 0, which xoshiro256++ could not leave. The seed is mixed so that the sequences
     /// of two seeds, which are parts of one cycle of 2^64 numbers, begin far apart: for seeds of some
-    /// millions of shots they meet with a chance of about one in 10^12.
+    /// millions of shots they meet with a chance of about one in 10^12. A seed has 2^62 shots; the
+    /// next one would be the first again.
     #[inline]
     pub fn of_shot(seed: u64, shot: u64) -> Generator {
         let start = mix(seed).wrapping_add(GAMMA.wrapping_mul(4).wrapping_mul(shot));

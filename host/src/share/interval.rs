@@ -5,6 +5,8 @@ use std::fmt;
 /// The 97.5 % quantile of the standard normal distribution: 95 % lie between it and its negative.
 const QUANTILE: f64 = 1.959963984540054;
 
+const LEAST_DECIMALS: usize = 6;
+
 /// An interval of shares.
 #[derive(Clone, Copy, Debug, PartialEq)]
 pub struct Interval {
@@ -19,14 +21,16 @@ impl Interval {
     /// there are no shots, or fewer than were counted.
     ///
     /// If a shot is counted with probability p, then p lies in the interval in about 95 % of such
-    /// experiments. Unlike two standard deviations to both sides, this holds for few shots and for
-    /// shares next to 0 and 1 too.
+    /// experiments. Next to 0 and 1 it is 95 % in the mean over p; for some p, such that about one
+    /// shot in six experiments is counted, it is as low as 84 %. Unlike two standard deviations to
+    /// both sides, the interval is never a single point and never passes 0 and 1.
     ///
     /// ```
     /// use cagvost::share::Interval;
     ///
     /// let interval = Interval::wilson(95_012, 100_000).unwrap();
     /// assert_eq!(interval.to_string(), "0.948753 to 0.951452");
+    /// assert_eq!(format!("{interval:.3}"), "0.949 to 0.951");
     /// assert_eq!(Interval::wilson(0, 0), None);
     /// ```
     pub fn wilson(count: u64, shots: u64) -> Option<Interval> {
@@ -50,11 +54,17 @@ impl Interval {
     }
 }
 
-/// Writes both ends with six decimals.
+/// Writes both ends with six decimals, or with as many as are asked for.
 impl fmt::Display for Interval {
     fn fmt(&self, f: &mut fmt::Formatter<'_>) -> fmt::Result {
-        write!(f, "{:.6} to {:.6}", self.low, self.high)
+        let decimals = f.precision().unwrap_or(LEAST_DECIMALS);
+        write!(f, "{:.2$} to {:.2$}", self.low, self.high, decimals)
     }
+}
+
+/// The decimals of shares and intervals of so many shots: enough to tell one shot from none.
+pub(super) fn decimals(shots: u64) -> usize {
+    shots.to_string().len().max(LEAST_DECIMALS)
 }
 
 #[cfg(test)]

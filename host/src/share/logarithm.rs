@@ -72,7 +72,7 @@ const fn table() -> [Cell; CELLS] {
 
 /// −ln(j/2^64), where j is the number with its last bit set to 1: above 0 and at most 64 ln 2.
 ///
-/// j is 2^−zeros times a number from 1/2 to 1, which is 1 − r times the upper end of its cell. The
+/// j/2^64 is 2^−zeros times a number from 1/2 to 1, which is 1 − r times the upper end of its cell. The
 /// three parts of the sum are never negative, so that no digits are lost: it is right up to some
 /// 4·10^−16 of itself.
 #[inline]

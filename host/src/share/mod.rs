@@ -39,6 +39,14 @@
 //! # Ok::<(), Box<dyn std::error::Error>>(())
 //! ```
 //!
+//! # What counts as harm
+//!
+//! A shot is judged as a [`frame_run`](crate::frame_run) judges it: by its final state, which is
+//! compared with that of the run without errors. At a free measurement the run without errors takes
+//! the circuit's choice, and the shot that choice raised by the X power which its errors have brought
+//! to the qudit. So an X error before a free measurement counts as harm, to the state and to the
+//! result, although every outcome was as likely. The choices themselves change no count.
+//!
 //! # Where the errors come from
 //!
 //! Drawing is no part of what is proved. It is kept small: [`Generator`] gives the random numbers of

@@ -3,7 +3,7 @@
 use super::error::ShareError;
 use super::generator::Generator;
 use super::kind::Kind;
-use super::logarithm::hazard;
+use super::logarithm::{hazard, minus_ln};
 use super::model::ErrorModel;
 use super::rates::{Probability, Rates};
 use crate::book::{Book, WeylError, narrow};
@@ -19,7 +19,8 @@ use crate::book::{Book, WeylError, narrow};
 /// grows with the errors of a shot and not with the operations of the circuit.
 ///
 /// The line is kept in floating-point numbers. Their rounding changes the probability of a site by
-/// about 2^−53 of the length of the line: by some 10^−14 where a shot has 100 errors.
+/// about 2^−53 of the length of the line before it: by some 10^−14 where a shot has 100 errors, each
+/// of a small probability, and by some 5·10^−13 behind 100 that are certain, whose sites are 45 long.
 ///
 /// ```
 /// use cagvost::book::{Book, Operation};
@@ -44,6 +45,8 @@ pub struct Sampler {
     guide: Vec<u16>,
     /// Buckets for each unit of the line.
     density: f64,
+    /// A shot whose first number is below this has its first point behind the line.
+    spared: u64,
     /// The powers of X and Z that errors can have, channel by channel.
     powers: Vec<[u8; 2]>,
     mean_errors: f64,
@@ -149,7 +152,12 @@ impl Sampler {
     fn strike(&self, seed: u64, shot: u64, mut hand_on: impl FnMut(WeylError)) {
         let length = self.ends.last().copied().unwrap_or(0.0);
         let mut generator = Generator::of_shot(seed, shot);
-        let mut point = generator.exponential();
+        let bits = generator.next_bits();
+        // Most shots of a small circuit are over here, without a logarithm.
+        if bits < self.spared {
+            return;
+        }
+        let mut point = minus_ln(bits);
         let mut struck = usize::MAX;
         while point < length {
             let i = self.site_at(point);
@@ -198,6 +206,19 @@ impl Sampler {
 #[inline]
 fn bucket(point: f64, density: f64) -> usize {
     (point * density) as u32 as usize
+}
+
+/// The least number whose exponential is below this length; where it is 0, none is at least so long.
+fn spared(length: f64) -> u64 {
+    let mut least = 0;
+    // The exponential falls where the number rises, so that its bits are found from the highest on.
+    for bit in (0..64).rev() {
+        let next = least | 1 << bit;
+        if minus_ln(next - 1) >= length {
+            least = next;
+        }
+    }
+    least
 }
 
 /// All powers of X and Z but those of the identity: first those of X alone, then those of Z alone.
@@ -253,6 +274,7 @@ impl Line {
         };
         Sampler {
             guide: (0..buckets).map(first_site).collect(),
+            spared: spared(self.length()),
             sites: self.sites,
             ends: self.ends,
             density,
@@ -328,10 +350,43 @@ mod tests {
         }
     }
 
+    /// Shots are spared exactly if their first point is behind the line. The largest number is left to
+    /// the walk, since there is none above it.
+    #[test]
+    fn spared_shots_have_their_first_point_behind_the_line() {
+        let longest = minus_ln(0);
+        for length in [
+            0.0, 1e-300, 1e-19, 1e-9, 0.1, 1.0, 3.7, 44.0, longest, 45.0, 1e6,
+        ] {
+            let spared = spared(length);
+            assert_eq!(spared == 0, longest < length, "{length}");
+            if let Some(last) = spared.checked_sub(1) {
+                assert!(minus_ln(last) >= length, "{length}");
+            }
+            for near in [0, 1, 2, 3, 1 << 20] {
+                let number = spared.saturating_add(near);
+                let is_before = minus_ln(number) < length;
+                assert!(is_before || number == u64::MAX, "{length}");
+            }
+        }
+    }
+
+    /// The line is as long as the hazards of its sites are together.
+    #[test]
+    fn the_line_has_the_lengths_of_its_sites() {
+        for p in [1e-12, 1e-6, 0.3, 0.9999, 0.99995, 1.0 - 1e-15] {
+            let sampler = laid(&[p; 1000]);
+            let end = sampler.ends[999];
+            let sum = 1000.0 * hazard(p);
+            assert!((end - sum).abs() <= 1e-13 * sum, "{p}: {end} and {sum}");
+        }
+        assert_eq!(laid(&[1.0, 1.0]).ends, [ALWAYS, 2.0 * ALWAYS]);
+    }
+
     /// From any point before it, the longest step does not pass a site that is always struck.
     #[test]
     fn no_step_passes_a_site_that_is_always_struck() {
-        let longest = super::super::logarithm::minus_ln(0);
+        let longest = minus_ln(0);
         for begin in [0.0, 1e-300, 1.0, 1e3, 16384.0 * ALWAYS] {
             assert!(begin + longest < begin + ALWAYS);
         }

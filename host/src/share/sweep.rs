@@ -2,17 +2,18 @@
 
 use super::counts::Counts;
 use super::figure::share;
-use super::interval::Interval;
+use super::interval::{Interval, decimals};
 use super::value::{Decimal, ValueError};
 use std::fmt;
+use std::iter;
 use std::str::FromStr;
 
 /// The error rates of a sweep: `0.001,0.002,0.005`, or `0.001:0.1:9` for nine rates in equal
 /// logarithmic steps.
 ///
 /// A rate may be a probability for every kind of operation, or a factor by which a model is scaled.
-/// Those of logarithmic steps are rounded to three digits, so that each can be typed to repeat its
-/// point.
+/// Those of logarithmic steps between the first and the last are rounded to three digits, so that
+/// each can be typed to repeat its point.
 ///
 /// ```
 /// use cagvost::share::Sweep;
@@ -54,7 +55,7 @@ impl FromStr for Sweep {
 fn rate(word: &str) -> Option<f64> {
     let number: f64 = word.trim().parse().ok()?;
     // Minus zero becomes zero, which is written without a sign.
-    (number.is_finite() && number >= 0.0).then_some(number + 0.0)
+    (number == 0.0 || (1e-100..=1e100).contains(&number)).then_some(number + 0.0)
 }
 
 /// Equal logarithmic steps. Rates that are rounded to the same are given once.
@@ -65,13 +66,16 @@ fn steps(from: &str, to: &str, count: &str) -> Option<Vec<f64>> {
         return None;
     }
     let step = |i: u32| from * (to / from).powf(f64::from(i) / f64::from(count - 1));
-    let mut rates: Vec<f64> = (0..count).map(|i| three_digits(step(i))).collect();
+    // Both ends are as they were given.
+    let between = (1..count - 1).map(|i| three_digits(step(i)));
+    let between = between.filter(|&rate| from < rate && rate < to);
+    let mut rates: Vec<f64> = iter::once(from).chain(between).chain([to]).collect();
     rates.dedup();
     Some(rates)
 }
 
 /// The decimal of three digits that is next to the number.
-fn three_digits(number: f64) -> f64 {
+pub(super) fn three_digits(number: f64) -> f64 {
     format!("{number:.2e}").parse().expect("what was written")
 }
 
@@ -156,10 +160,10 @@ impl Curve {
 
 /// A count with its share and its interval, if there are shots.
 fn share_cells(count: u64, shots: u64) -> [String; 3] {
-    let interval = Interval::wilson(count, shots);
-    let share = interval.map(|_| format!("{:.6}", share(count, shots)));
+    let (interval, digits) = (Interval::wilson(count, shots), decimals(shots));
+    let share = interval.map(|_| format!("{:.digits$}", share(count, shots)));
     let or_none = |cell: Option<String>| cell.unwrap_or("-".to_string());
-    let interval = interval.map(|interval| interval.to_string());
+    let interval = interval.map(|interval| format!("{interval:.digits$}"));
     [count.to_string(), or_none(share), or_none(interval)]
 }
 
@@ -187,7 +191,9 @@ mod tests {
         let rates = read("1e-6:1:1000");
         assert!(rates.is_sorted_by(|x, y| x < y));
         assert_eq!((rates[0], rates[rates.len() - 1]), (1e-6, 1.0));
-        assert_eq!(read("0.1:0.1001:9"), [0.1]);
+        assert_eq!(read("0.1:0.1001:9"), [0.1, 0.1001]);
+        assert_eq!(read("0.12345:0.98765:2"), [0.12345, 0.98765]);
+        assert_eq!(read("0.1:0.9999:3"), [0.1, 0.316, 0.9999]);
     }
 
     /// What the table prints for a rate is read as the same rate.
@@ -216,6 +222,8 @@ mod tests {
             "0.1:0.2:1001",
             "0.1:0.2:x",
             "0.1:inf:3",
+            "1e-101",
+            "1e101",
         ] {
             let error = word.parse::<Sweep>().expect_err(word);
             assert_eq!(

@@ -350,6 +350,29 @@ fn another_seed_gives_other_errors() {
     assert_eq!(lists.len(), 900);
 }
 
+/// Each operation has the rates of its own line, and of no other.
+#[test]
+fn each_kind_has_its_own_rates() {
+    let book = circuit(
+        "qudits 2 dimension 5\nfourier 0\nphase 0\nsum 0 1\ncz 0 1\nswap 0 1\nmultiplier 0 by 2\n\
+         measure 0",
+    );
+    let kinds: [(&str, &[u16]); 7] = [
+        ("fourier", &[1]),
+        ("phase", &[2]),
+        ("sum", &[3, 3]),
+        ("cz", &[4, 4]),
+        ("swap", &[5, 5]),
+        ("multiplier", &[6]),
+        ("measure", &[6]),
+    ];
+    for (kind, places) in kinds {
+        let sampler = sampler(&book, &format!("{kind} 1\nothers 0"));
+        let struck: Vec<u16> = sampler.errors(1, 0).iter().map(|e| e.place).collect();
+        assert_eq!(struck, places, "{kind}");
+    }
+}
+
 /// A kind that the circuit has and the model does not name is an error, and not a rate of 0.
 #[test]
 fn a_kind_without_rates_is_refused() {

@@ -49,7 +49,7 @@ fn the_text_of_a_part() {
     let share = share(&book, "fourier z 1");
     let text = parts(&share, 9, 100, 3)[1].to_string();
     let expected = "\
-cagvost part
+cagvost part 1
 circuit 134970da19f144ef
 model 104f6a4e2175d484
 seed 9
@@ -59,7 +59,7 @@ shard 2/3
 counted 33
 unharmed 0
 results 33
-check 49dd29f260bc993f
+check 7f7b4bbcd8b3e654
 ";
     assert_eq!(text, expected);
 }
@@ -202,7 +202,7 @@ fn messages_say_what_is_wrong() {
         assert!(text.contains(from));
         refused(&text.replace(from, to))
     };
-    assert!(refused("").contains("expected 'cagvost part', found the end of the text"));
+    assert!(refused("").contains("expected 'cagvost part 1', found the end of the text"));
     assert!(refused("qudits 2 dimension 3").starts_with("line 1, column 1: expected 'cagvost'"));
     assert!(
         changed("shard 2/2", "shard 3/2").starts_with("line 7, column 7: expected a shard I/N")

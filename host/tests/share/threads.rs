@@ -4,8 +4,11 @@ use super::{circuit, count, count_on, share};
 use crate::common::Rng;
 use crate::common::trays::draw_circuit;
 use cagvost::share::{Counts, Share};
+use std::collections::HashSet;
 use std::num::NonZeroUsize;
 use std::sync::Mutex;
+use std::thread;
+use std::time::Duration;
 
 fn drawn(d: u8, n: u8, measurements: usize) -> Share {
     let mut rng = Rng(u64::from(d) + u64::from(n));
@@ -81,5 +84,25 @@ fn progress_rises_to_all_shots() {
             "{told:?}"
         );
         assert_eq!(told.last(), Some(&30_000));
+    }
+}
+
+/// Several threads take part. Each waits a little after its trays, so that the others come to theirs.
+#[test]
+fn as_many_threads_as_asked_for_take_part() {
+    let book = circuit("qudits 1 dimension 3\nmeasure 0");
+    let share = share(&book, "measure 0.1");
+    for threads in [1, 3] {
+        let seen = Mutex::new(HashSet::new());
+        let progress = |_| {
+            seen.lock()
+                .expect("no panic")
+                .insert(thread::current().id());
+            thread::sleep(Duration::from_millis(1));
+        };
+        let count = NonZeroUsize::new(threads).expect("a thread");
+        let counts = share.count(1, 0..100 * 4096, count, &progress);
+        assert_eq!(counts.map(|counts| counts.shots), Ok(100 * 4096));
+        assert_eq!(seen.into_inner().expect("no panic").len(), threads);
     }
 }

@@ -129,7 +129,9 @@ usage: cagvost share CIRCUIT (--error P | --model FILE) [OPTIONS]
 
 Draws errors for many shots of the circuit, runs each from the zero tableau, and prints how many are
 unharmed (they end in the state of the run without errors), the share of these with its 95 % Wilson
-interval, and the same for the shots in which every result is that of the run without errors.
+interval, and the same for the shots in which every result is that of the run without errors. A free
+measurement takes the circuit's choice, raised by the X power that the errors have brought to its
+qudit: so an X error before it counts as harm, although every outcome was as likely.
 
   --error P       each operation has an error on each of its qudits with probability P: one of the
                   d² − 1 Weyl errors X^p Z^s, each equally likely. It strikes after a gate and
@@ -141,9 +143,10 @@ interval, and the same for the shots in which every result is that of the run wi
   --seed N        what the drawing starts from (1). Shot i depends on the seed and i alone, so that
                   the same seed gives the same figure on any number of threads.
   --threads N     how many threads (as many as there are processors)
-  --shard I/N     count part I of N and print it for `cagvost sum`
+  --shard I/N     count part I of N of these shots, and print it for `cagvost sum`
   --sweep RATES   a table over error rates: a list, '0.001,0.002,0.005', or so many rates in equal
-                  ratios, '0.0001:0.1:10'. With --model the rates are factors that multiply it.
+                  ratios, '0.0001:0.1:10', rounded to three digits between the first and the last.
+                  With --model the rates are factors that multiply it.
   --svg FILE      draw the table of --sweep as a curve
 
 ",

@@ -142,7 +142,10 @@ impl<'a> Request<'a> {
         let models: Vec<ErrorModel> = models.collect::<Result<_, _>>()?;
         let mut points = Vec::new();
         for (&rate, model) in sweep.rates().iter().zip(&models) {
-            let counts = self.count(&self.under(model)?, 0..self.shots)?;
+            let counts = self
+                .under(model)
+                .and_then(|share| self.count(&share, 0..self.shots));
+            let counts = counts.map_err(|failure| at_rate(rate, failure))?;
             points.push(Point { rate, counts });
         }
         let (seed, measurements) = (self.seed, self.book.measurements() as u64);
@@ -167,6 +170,14 @@ impl<'a> Request<'a> {
         let file = Path::new(files::called(self.name)).file_name();
         let name = file.map_or_else(|| self.name.into(), |name| name.to_string_lossy());
         format!("{name}: {} shots per point, seed {}", self.shots, self.seed)
+    }
+}
+
+/// A refusal, with the rate of the sweep at which it came.
+fn at_rate(rate: f64, failure: Failure) -> Failure {
+    match failure {
+        Failure::Refused(why) => Failure::Refused(format!("at the rate {rate}: {why}")),
+        other => other,
     }
 }
 
