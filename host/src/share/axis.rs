@@ -157,6 +157,33 @@ mod tests {
         assert!(rates(&[1e-200, 1.0]).ticks.len() <= MOST_TICKS);
     }
 
+    /// The least and the largest rates of a sweep.
+    #[test]
+    fn extreme_rates_have_few_and_short_ticks() {
+        for extreme in [
+            [1e-100; 2],
+            [1e100; 2],
+            [1e-100, 2e-100],
+            [1e-100, 1e100],
+            [0.0, 1e100],
+        ] {
+            let axis = rates(&extreme);
+            let ticks = axis.ticks.len();
+            assert!(
+                (1..=2 * MOST_TICKS).contains(&ticks),
+                "{extreme:?}: {ticks}"
+            );
+            assert!(
+                labels(&axis).iter().all(|label| label.len() < 12),
+                "{extreme:?}"
+            );
+            assert!(
+                extreme.iter().all(|&rate| axis.place(rate).is_finite()),
+                "{extreme:?}"
+            );
+        }
+    }
+
     #[test]
     fn other_rates_have_a_linear_axis() {
         let tenths = ["0.0", "0.2", "0.4", "0.6", "0.8", "1.0"];
@@ -172,6 +199,9 @@ mod tests {
             ["0.006", "0.008", "0.010", "0.012", "0.014"]
         );
         assert!(!rates(&[]).ticks.is_empty());
+        // Rates that are all the same are as one.
+        assert_eq!(labels(&rates(&[0.01; 3])), labels(&rates(&[0.01])));
+        assert_eq!(labels(&rates(&[0.0; 3])), tenths);
     }
 
     #[test]
