@@ -6,6 +6,5 @@ if ! command -v rt > /dev/null; then
     exit 2
 fi
 . commands/lock.sh
-# rt staticlib proves one crate after the other, rt check several at a time. The copy matters: rt ci removes target/, and cargo
-# would not build again for that.
-rt check cagvost && rt staticlib cagvost && cp target/staticlib/libcagvost.a "$1"
+# The copy matters: rt ci removes target/, and cargo would not build again for that.
+sh commands/prove.sh && cp target/staticlib/libcagvost.a "$1"
