@@ -18,6 +18,8 @@
 #![doc = include_str!("lines.txt")]
 //! ```
 //!
+//! Words may be in small or large letters, and a power of 1 need not be written.
+//!
 //! What can be read is checked by the proved writer, so that a text is refused exactly if a run
 //! would refuse its bytes, by the same number.
 
