@@ -23,7 +23,7 @@ pub const MAX_ERRORS: usize = 2048;
 /// The largest number of choices in a book.
 pub const MAX_CHOICES: usize = 4096;
 
-/// One of the seven operations. Qudits are numbered from 0.
+/// One of the nine operations. Qudits are numbered from 0.
 ///
 /// Four of the gates have powers: one entry of a book applies them `times` times, and leaves what as
 /// many entries with one application leave. Their numbers end before the power that is the identity:
@@ -85,10 +85,23 @@ pub enum Operation {
         /// The factor, from 1 to d − 1.
         u: u8,
     },
-    /// Measures the level of a qudit. It takes the next choice.
+    /// Measures the level of a qudit. It takes the next choice and gives a result.
     Measure {
         /// The qudit.
         q: u8,
+    },
+    /// Brings a qudit to level 0: measures it, which takes the next choice and gives no result, and
+    /// applies X to the minus outcome.
+    Reset {
+        /// The qudit.
+        q: u8,
+    },
+    /// Applies X to the minus result of an earlier measurement.
+    Correct {
+        /// The qudit that is corrected.
+        t: u8,
+        /// The measurement, counted from 0 over the operations [`Measure`](Operation::Measure) alone.
+        m: u16,
     },
 }
 
@@ -104,6 +117,8 @@ impl Operation {
     /// | swap | 4, c, t, 0 | 0 |
     /// | multiplier | 5, q, 0, u | 1 to d − 1 |
     /// | measure | 6, q, 0, 0 | 0 |
+    /// | reset | 7, q, 0, 0 | 0 |
+    /// | correct | 8, t, m (low byte first) | the high byte of m |
     ///
     /// A gate applied no times is none of these: its last byte comes out as 1, which a run refuses
     /// ([`Refusal::Operation`]).
@@ -118,6 +133,11 @@ impl Operation {
             Operation::Swap { c, t } => [4, c, t, 0],
             Operation::Multiplier { q, u } => [5, q, 0, u],
             Operation::Measure { q } => [6, q, 0, 0],
+            Operation::Reset { q } => [7, q, 0, 0],
+            Operation::Correct { t, m } => {
+                let [low, high] = m.to_le_bytes();
+                [8, t, low, high]
+            }
         }
     }
 
@@ -146,6 +166,11 @@ impl Operation {
             [4, c, t, 0] => Operation::Swap { c, t },
             [5, q, 0, u] => Operation::Multiplier { q, u },
             [6, q, 0, 0] => Operation::Measure { q },
+            [7, q, 0, 0] => Operation::Reset { q },
+            [8, t, low, high] => Operation::Correct {
+                t,
+                m: u16::from_le_bytes([low, high]),
+            },
             _ => return None,
         })
     }
@@ -156,7 +181,9 @@ impl Operation {
             Operation::Fourier { q, .. }
             | Operation::PhaseGate { q, .. }
             | Operation::Multiplier { q, .. }
-            | Operation::Measure { q } => (q, None),
+            | Operation::Measure { q }
+            | Operation::Reset { q } => (q, None),
+            Operation::Correct { t, .. } => (t, None),
             Operation::Sum { c, t, .. } | Operation::Cz { c, t, .. } | Operation::Swap { c, t } => {
                 (c, Some(t))
             }
@@ -276,7 +303,7 @@ impl Book {
         Ok(book)
     }
 
-    /// Adds an operation. A measurement added in this way still needs its choice.
+    /// Adds an operation. A measurement or a reset added in this way still needs its choice.
     pub fn operation(&mut self, operation: Operation) -> &mut Book {
         self.operations.push(operation);
         self
@@ -285,6 +312,16 @@ impl Book {
     /// Adds a measurement together with its choice.
     pub fn measure(&mut self, q: u8, choice: u8) -> &mut Book {
         self.operation(Operation::Measure { q }).choice(choice)
+    }
+
+    /// Adds a reset together with its choice.
+    pub fn reset(&mut self, q: u8, choice: u8) -> &mut Book {
+        self.operation(Operation::Reset { q }).choice(choice)
+    }
+
+    /// Adds a correction of qudit `t` by the result of measurement `m`, which must come earlier.
+    pub fn correct(&mut self, t: u8, m: u16) -> &mut Book {
+        self.operation(Operation::Correct { t, m })
     }
 
     /// Adds a choice.
@@ -333,7 +370,7 @@ impl Book {
         &self.errors
     }
 
-    /// The choices, one for each measurement.
+    /// The choices, one for each measurement and each reset, in the order of the operations.
     pub fn choices(&self) -> &[u8] {
         &self.choices
     }
@@ -343,7 +380,7 @@ impl Book {
         &mut self.choices
     }
 
-    /// How many of the operations are measurements.
+    /// How many of the operations are measurements, which give a result each. A reset is none of them.
     pub fn measurements(&self) -> usize {
         let measures = |o: &&Operation| matches!(o, Operation::Measure { .. });
         self.operations.iter().filter(measures).count()

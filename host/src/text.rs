@@ -263,6 +263,8 @@ impl fmt::Display for Operation {
             Operation::Swap { c, t } => return write!(f, "swap {c} {t}"),
             Operation::Multiplier { q, u } => return write!(f, "multiplier {q} by {u}"),
             Operation::Measure { q } => return write!(f, "measure {q}"),
+            Operation::Reset { q } => return write!(f, "reset {q}"),
+            Operation::Correct { t, m } => return write!(f, "correct {t} by {m}"),
         };
         match times {
             1 => Ok(()),

@@ -1,10 +1,44 @@
 // A block of up to 256 shots: their frames carried in lanes, their results from the clean ones.
 ghost use mathlib.Core.Path.{_≡_};
-ghost use Prim.Native.Nat.{_+_, _*_, _<_, _≤_};
-ghost use lib.ListN.{length};
+ghost use Prim.Native.Nat.{_+_, _*_, _/_, _<_, _≤_};
+ghost use lib.ListN.{length, getD};
+ghost use Rattle.circuit.specs.Circuit.{measured};
+ghost use Rattle.book.specs.Decoded.{operationsOf};
 ghost use Rattle.lanes.specs.Lanes.{Lanes};
 ghost use Rattle.tile.specs.Tile.{TileRoom, ShotsRoom};
-ghost use Rattle.block.specs.Block.{measurementsOf, CleanCircuit, AtOperation, BlockStart, Stepped, ResultsKept, BlockCarried, BlockResults};
+ghost use Rattle.block.specs.Block.{measurementsOf, CleanCircuit, AtOperation, BlockStart, Reported, Adjusted, Stepped, ResultsKept, BlockCarried, BlockResults};
+
+// A reset or a correction on the lanes. What a lane loses at a correction is its reported result less the clean one: the first `base`
+// results are read from the shots, the others from the tile.
+fn adjust(
+    v: &mut [u8],
+    tile: &[u8],
+    out: &[u8],
+    ops: &[u8],
+    clean: &[u8],
+    k: usize,
+    base: usize,
+    w: usize,
+    used: usize,
+    d: u8,
+    n: usize,
+)
+    requires { ⌜ CleanCircuit d n (now ops) (now clean)
+        × (k < length (now ops) / 4)
+        × (6 < getD (now ops) (4 * k) 0)
+        × Lanes d n (now v)
+        × Reported d w used base (measured (operationsOf d n (now ops)) k) (now tile) (now out) ⌝ }
+    ensures { λ _. ⌜ Adjusted d n (now (ops .entry)) (now (clean .entry)) k w used base (now (tile .entry)) (now (out .entry)) (now (v .entry)) (now (v .exit))
+        × Lanes d n (now (v .exit)) ⌝ }
+{
+    let q = casts::byte_as_usize(ops[4 * k + 1]);
+    if ops[4 * k] == 7 {
+        lanes::reset_lanes(v, q, d, n);
+        return;
+    }
+    let i = book_entries::word(ops, 4 * k + 2);
+    correction::correct(v, tile, out, i, base, q, clean[2 * i], w, used, d, n);
+}
 
 // Operation k on each lane; a measurement's results go to row y of the tile. How many
 // measurements there are up to it, itself among them, is returned.
@@ -12,11 +46,15 @@ fn perform(
     v: &mut [u8],
     tile: &mut [u8],
     marks: &mut [u8],
+    out: &[u8],
     ops: &[u8],
     clean: &[u8],
     k: usize,
     j: usize,
     y: usize,
+    base: usize,
+    w: usize,
+    used: usize,
     d: u8,
     m: u16,
     n: usize,
@@ -25,19 +63,25 @@ fn perform(
         × Lanes d n (now v)
         × (length (now tile) ≡ 4096)
         × (length (now marks) ≡ 16)
-        × (y < 16) ⌝ }
-    ensures { λ r. ⌜ Stepped d n (now (ops .entry)) (now (clean .entry)) k j y (now (v .entry)) (now (tile .entry)) (now (marks .entry)) (now (v .exit)) (now (tile .exit)) (now (marks .exit)) r
+        × (y < 16)
+        × Reported d w used base j (now tile) (now out) ⌝ }
+    ensures { λ r. ⌜ Stepped d n (now (ops .entry)) (now (clean .entry)) k j y w used base (now (out .entry)) (now (v .entry)) (now (tile .entry)) (now (marks .entry)) (now (v .exit)) (now (tile .exit)) (now (marks .exit)) r
         × Lanes d n (now (v .exit))
         × (length (now (tile .exit)) ≡ 4096)
         × (length (now (marks .exit)) ≡ 16) ⌝ }
 {
-    if ops[4 * k] == 6 {
+    let code = ops[4 * k];
+    if code < 6 {
+        lane_gate::perform(v, ops, k, d, m, n);
+        return j;
+    }
+    if code == 6 {
         let q = casts::byte_as_usize(ops[4 * k + 1]);
         tile::write_row(tile, v, y, q, clean[2 * j], d, n);
         marks[y] = clean[2 * j + 1];
         return j + 1;
     }
-    lane_gate::perform(v, ops, k, d, m, n);
+    adjust(v, tile, out, ops, clean, k, base, w, used, d, n);
     j
 }
 
@@ -97,7 +141,7 @@ pub fn run(
         × TileRoom (now tile) (now spare) (now marks)
         × (w ≡ 1 + 2 * measurementsOf d n (now ops))
         × ShotsRoom w used (now out) ⌝ }
-    ensures { λ _. ⌜ BlockCarried d n (now (ops .entry)) (now (tray .entry)) (now (starts .entry)) (now (sizes .entry)) (now (v .entry)) (now (v .exit))
+    ensures { λ _. ⌜ BlockCarried d n (now (ops .entry)) (now (tray .entry)) (now (starts .entry)) (now (sizes .entry)) used (now (v .entry)) (now (v .exit))
         × Lanes d n (now (v .exit))
         × BlockResults d n (now (ops .entry)) (now (tray .entry)) (now (starts .entry)) (now (sizes .entry)) (now (clean .entry)) w used (now (out .entry)) (now (out .exit)) ⌝ }
 {
@@ -109,7 +153,23 @@ pub fn run(
     while k < count {
         calendar::apply_at_place(v, slots, counts, cursors, tray, starts, sizes, k, d, n);
         let y = j - base;
-        j = perform(v, tile, marks, ops, clean, k, j, y, d, m, n);
+        j = perform(
+            v,
+            tile,
+            marks,
+            out,
+            ops,
+            clean,
+            k,
+            j,
+            y,
+            base,
+            w,
+            used,
+            d,
+            m,
+            n,
+        );
         base = flush_full(out, tile, spare, marks, base, j, w, used);
         k += 1;
     }

@@ -7,7 +7,7 @@ use lib.ListN.{set}
 use Rattle.modular.specs.Dimension.{listed}
 use Rattle.search.specs.Search.{firstNot}
 use Rattle.book_entries.specs.Entry.{decoded, errorAt}
-use Rattle.book_body.specs.Body.{badOperation, measurements, goodError, badError, badChoice, refused, accepted, readBodies}
+use Rattle.book_body.specs.Body.{badOperation, measurements, choiceTakers, goodError, badError, badChoice, refused, accepted, readBodies}
 use Rattle.book.specs.Book.{headerFits, entryFits, badContents, readBook, bodyOf}
 
 -- d 3, n 2; Fourier on 0, SUM from 0 to 1, a measurement of each; an error at place 2; two choices
@@ -17,7 +17,7 @@ example =
     ∷ 0 ∷ 0 ∷ 0 ∷ 0 ∷ 2 ∷ 0 ∷ 1 ∷ 0 ∷ 6 ∷ 0 ∷ 0 ∷ 0 ∷ 6 ∷ 1 ∷ 0 ∷ 0 ∷ 2 ∷ 0 ∷ 1 ∷ 1 ∷ 0 ∷ 2 ∷ 0 ∷ []
 
 pub example-accepted : readBook example ≡ accepted 3 2 4 1 2
-unfolding listed firstNot decoded errorAt measurements badOperation goodError badError badChoice readBodies headerFits entryFits badContents readBook
+unfolding listed firstNot decoded errorAt measurements choiceTakers badOperation goodError badError badChoice readBodies headerFits entryFits badContents readBook
 example-accepted = refl
 
 -- its bodies are handed back by their kinds alone
@@ -43,7 +43,7 @@ headers = (refl, refl, refl, refl, refl)
 pub sizes :
     (readBook (set example 1 31) ≡ accepted 31 2 4 1 2) × (readBook (set example 1 37) ≡ refused 2 0)
     × (readBook (set example 2 64) ≡ accepted 3 64 4 1 2) × (readBook (set example 2 0) ≡ refused 3 0)
-unfolding listed firstNot decoded errorAt measurements badOperation goodError badError badChoice readBodies headerFits entryFits badContents readBook
+unfolding listed firstNot decoded errorAt measurements choiceTakers badOperation goodError badError badChoice readBodies headerFits entryFits badContents readBook
 sizes = (refl, refl, refl, refl)
 
 -- 4: kind, zero byte, offset and length of entry 1; a length that is whole and false shows as the next one's offset; a wrong end alone
@@ -55,5 +55,5 @@ contents = (refl, refl, refl, refl, refl, refl)
 
 -- 5, 6 and 7: SUM of a qudit with itself; a place too high; a choice of d
 pub bodies : (readBook (set example 28 0) ≡ refused 5 1) × (readBook (set example 38 5) ≡ refused 6 0) × (readBook (set example 44 3) ≡ refused 7 1)
-unfolding listed firstNot decoded errorAt measurements badOperation goodError badError badChoice readBodies headerFits entryFits badContents readBook
+unfolding listed firstNot decoded errorAt measurements choiceTakers badOperation goodError badError badChoice readBodies headerFits entryFits badContents readBook
 bodies = (refl, refl, refl)

@@ -1,7 +1,7 @@
 -- An accepted book's numbers are those of its lists of operations, errors and choices, and the lists are what 2, 3 and 5 to 7
 -- let through. Assumes nothing.
 use mathlib.Core.Path.{_≡_, refl, sym, ap, subst, _∙_}
-use mathlib.Core.Bool.{cond, true, false≢true}
+use mathlib.Core.Bool.{Bool, cond, true, false, _||_, false≢true}
 use mathlib.Core.List.{List, [], _∷_}
 use Prim.Native.Nat.{ℕ, zero, suc, _+_, _*_, _/_, _<_, _≤_}
 use native.Mathlib.Nat.{le-refl}
@@ -10,13 +10,13 @@ use lib.Dec.{eqb}
 use lib.ListN.{length, getD}
 use borrow.Author.Tests.{ltb-true}
 use Rattle.operation.specs.declared.Operation.{Operation}
-use Rattle.operation.specs.declared.Operation.the-variants.{Fourier, PhaseGate, Sum, Cz, Swap, Multiplier, Measure}
-use Rattle.operation.specs.Operation.{allowed}
-use Rattle.circuit.specs.Circuit.{tally, measured, Accepted}
+use Rattle.operation.specs.declared.Operation.the-variants.{Fourier, PhaseGate, Sum, Cz, Swap, Multiplier, Measure, Reset, Correct}
+use Rattle.operation.specs.Operation.{allowed, named}
+use Rattle.circuit.specs.Circuit.{tally, measured, choiceTally, chosen, Accepted}
 use Rattle.book_entries.specs.declared.Decoded.{Decoded}
 use Rattle.book_entries.specs.declared.Decoded.the-variants.{Good, Bad}
 use Rattle.book_entries.specs.Entry.{bytesOf, operationAt}
-use Rattle.book_body.specs.Body.{isGood, measurements, ReaderAnswer, refused, accepted}
+use Rattle.book_body.specs.Body.{isGood, measurements, choiceTakers, ReaderAnswer, refused, accepted}
 use Rattle.book_body.proofs.Sound.{no-refusal, Sound, all-sound, each-operation, one-each, each-choice}
 use Rattle.book_entries.proofs.Decoding.{decoded-exactly}
 use Rattle.book.specs.Book.{dimensionOf, quditsOf, operationsEntry, errorsEntry, choicesEntry, partOf, bodyOf}
@@ -25,9 +25,9 @@ use Rattle.book.proofs.Contents.{all-passed, by-kind}
 use Rattle.book.proofs.Lists.{op-count, op-at, error-count}
 use Rattle.book.proofs.GoodErrors.{errors-in-order, places}
 
-is-in : (x : Decoded) → isGood x ≡ true → x ≡ Good (operationIn x)
-is-in (Good op) e = refl
-is-in Bad e = absurd (false≢true e)
+is-in : (earlier : ℕ) (x : Decoded) → isGood earlier x ≡ true → (x ≡ Good (operationIn x)) × (named earlier (operationIn x) ≡ true)
+is-in earlier (Good op) e = (refl, e)
+is-in earlier Bad e = absurd (false≢true e)
 
 -- 1 for the code 6, else 0
 code-tally : (op : Operation) → tally op ≡ cond (eqb (getD (bytesOf op) 0 0) 6) 1 0
@@ -39,6 +39,24 @@ code-tally (Cz c t k) = refl
 code-tally (Swap c t) = refl
 code-tally (Multiplier q u) = refl
 code-tally (Measure q) = refl
+code-tally (Reset q) = refl
+code-tally (Correct t m) = refl
+
+-- 1 for the codes 6 and 7, else 0
+abbrev takes : ℕ → ℕ
+takes code = cond (eqb code 6 || eqb code 7) 1 0
+
+code-takes : (op : Operation) → choiceTally op ≡ takes (getD (bytesOf op) 0 0)
+unfolding bytesOf
+code-takes (Fourier q k) = refl
+code-takes (PhaseGate q k) = refl
+code-takes (Sum c t k) = refl
+code-takes (Cz c t k) = refl
+code-takes (Swap c t) = refl
+code-takes (Multiplier q u) = refl
+code-takes (Measure q) = refl
+code-takes (Reset q) = refl
+code-takes (Correct t m) = refl
 
 -- the four bytes of entry k
 abbrev entryOf : List ℕ → ℕ → List ℕ
@@ -48,7 +66,7 @@ module _ {d n : ℕ} {os es cs : List ℕ} {t : ReaderAnswer} (sound : Sound d n
   -- the operations
   -- entry k is allowed, and its bytes are its operation's
   entry : (k : ℕ) → k < length os / 4 → (allowed d n (operationOf d n os k) ≡ true) × (entryOf os k ≡ bytesOf (operationOf d n os k))
-  entry k h = decoded-exactly d n _ _ _ _ (operationOf d n os k) .0 (is-in (operationAt d n os k) (each-operation sound k h))
+  entry k h = decoded-exactly d n _ _ _ _ (operationOf d n os k) .0 (is-in (measurements os k) (operationAt d n os k) (each-operation sound k h) .0)
 
   op-tally : (k : ℕ) → k < length os / 4 → tally (operationOf d n os k) ≡ cond (eqb (getD os (4 * k) 0) 6) 1 0
   op-tally k h = code-tally (operationOf d n os k) ∙ ap (λ (bytes : List ℕ). cond (eqb (getD bytes 0 0) 6) 1 0) (sym (entry k h .1))
@@ -58,13 +76,24 @@ module _ {d n : ℕ} {os es cs : List ℕ} {t : ReaderAnswer} (sound : Sound d n
   op-measured zero h = refl
   op-measured (suc k) h = rw (op-measured k (omega arith), op-at d n os k h, op-tally k h)
 
+  op-chosen : (k : ℕ) → k ≤ length os / 4 → chosen (operationsOf d n os) k ≡ choiceTakers os k
+  unfolding chosen choiceTakers
+  op-chosen zero h = refl
+  op-chosen (suc k) h =
+      rw (op-chosen k (omega arith), op-at d n os k h, code-takes (operationOf d n os k) ∙ ap (λ (bytes : List ℕ). takes (getD bytes 0 0)) (sym (entry k h .1)))
+
+  -- and names an earlier measurement, if any
+  op-names : (k : ℕ) → k < length os / 4 → named (measured (operationsOf d n os) k) (operationOf d n os k) ≡ true
+  op-names k h = rw (op-measured k (omega arith)) (is-in (measurements os k) (operationAt d n os k) (each-operation sound k h) .1)
+
   lists : Accepted d n (operationsOf d n os) (errorsOf es) cs
   lists =
       record {
         operations = λ k h. let l : k < length os / 4 = rw op-count at h in rw (op-at d n os k l) (entry k l .0);
+        names = λ k h. let l : k < length os / 4 = rw op-count at h in rw (op-at d n os k l) (op-names k l);
         errors-in-order = errors-in-order d n (length os / 4) es (sound .errors);
         places = λ j h. rw op-count (places d n (length os / 4) es (sound .errors) j h);
-        one-each = rw op-count (one-each sound ∙ sym (op-measured _ (le-refl _)));
+        one-each = rw op-count (one-each sound ∙ sym (op-chosen _ (le-refl _)));
         below = λ j h. ltb-true _ _ (each-choice sound j h);
       }
 
@@ -90,7 +119,8 @@ accepted-means s d n operations errors choices e =
       operation-count = rw b1 (op-count _ _ _);
       error-count = rw b2 (error-count _);
       choice-count = ap length b3;
-      measurement-count = rw b1 (op-measured sound _ (le-refl _) ∙ sym (one-each sound));
-      code-count = rw b1 (sym (one-each sound));
+      choices-taken = rw b1 (op-chosen sound _ (le-refl _) ∙ sym (one-each sound));
+      taker-count = rw b1 (sym (one-each sound));
+      measurement-count = rw b1 (op-measured sound _ (le-refl _));
       lists = rw (b1, b2, b3) (lists sound);
     })

@@ -11,7 +11,7 @@ use borrow.Author.Tests.{lt-ltb, eq-eqb}
 use Rattle.search.specs.declared.Place.the-variants.{Nowhere}
 use Rattle.search.proofs.Search.{none-fails}
 use Rattle.book_entries.specs.Entry.{word}
-use Rattle.book_body.specs.Body.{measurements, goodChoice, badChoice, ReaderAnswer, accepted, readBodies}
+use Rattle.book_body.specs.Body.{choiceTakers, goodChoice, badChoice, ReaderAnswer, accepted, readBodies}
 use Rattle.book_body.proofs.Sound.{no-refusal, Sound, all-sound, one-each}
 use Rattle.book.specs.Book.{headerFits, dimensionOf, quditsOf, operationsEntry, errorsEntry, choicesEntry, offsetOf, lengthOf, endOf, partOf, entryFits, badContents, readBook, bodyOf}
 use Rattle.book.proofs.Contents.{Passed, all-passed, ContentsLaid, laid, part-length, by-kind}
@@ -137,12 +137,12 @@ module _ {d n operations errors choices : ℕ} (s c : List ℕ) (e : readBook s 
       )
       (take-length c)
 
-  good : badChoice (dimensionOf s) (measurements (partOf s operationsEntry) (length (partOf s operationsEntry) / 4)) c ≡ Nowhere
+  good : badChoice (dimensionOf s) (choiceTakers (partOf s operationsEntry) (length (partOf s operationsEntry) / 4)) c ≡ Nowhere
   unfolding badChoice
   good =
       let m = accepted-means s d n operations errors choices e in
       rw
-      (eq-eqb (length c) (measurements (partOf s operationsEntry) (length (partOf s operationsEntry) / 4)) (as-many ∙ one-each sound))
+      (eq-eqb (length c) (choiceTakers (partOf s operationsEntry) (length (partOf s operationsEntry) / 4)) (as-many ∙ one-each sound))
       (none-fails (goodChoice (dimensionOf s) c) (length c) (λ j l. rw (m .dimension) (lt-ltb (getD c j 0) d (below j l))))
 
   bodies : readBodies (dimensionOf s) (quditsOf s) (partOf s operationsEntry) (partOf s errorsEntry) c ≡ accepted d n operations errors choices

@@ -10,11 +10,11 @@ use Rattle.tableau.specs.Tableau.{sized}
 use Rattle.operation.specs.declared.Operation.{Operation}
 use Rattle.operation.specs.declared.Operation.the-variants.{Swap}
 use Rattle.operation.specs.declared.WeylError.{WeylError}
-use Rattle.circuit.specs.Circuit.{measured, Accepted}
+use Rattle.circuit.specs.Circuit.{measured, chosen, Accepted}
 use Rattle.book_entries.specs.declared.Decoded.{Decoded}
 use Rattle.book_entries.specs.declared.Decoded.the-variants.{Good, Bad}
 use Rattle.book_entries.specs.Entry.{operationAt, errorAt}
-use Rattle.book_body.specs.Body.{measurements, accepted}
+use Rattle.book_body.specs.Body.{measurements, choiceTakers, accepted}
 use Rattle.book.specs.Book.{readBook, dimensionOf, quditsOf, bodyOf}
 
 -- the operation of an entry; for a bad one, one that is never allowed
@@ -49,6 +49,7 @@ pub record Bodies (d n : ℕ) (ops errors choices : List ℕ) : Type 0 where
   pub dimension : listed d ≡ true
   pub qudits : n ≤ 64
   pub lists : Accepted d n (operationsOf d n ops) (errorsOf errors) choices
+  pub few : length choices ≤ 4096
 
 -- What the reader's answer says of the lists: its numbers are theirs, and they are what 2, 3 and 5 to 7 let through.
 pub record Means (s : List ℕ) (d n operations errors choices : ℕ) : Type 0 where
@@ -59,8 +60,9 @@ pub record Means (s : List ℕ) (d n operations errors choices : ℕ) : Type 0 w
   pub operation-count : length (operationsOf d n (bodyOf s 1)) ≡ operations
   pub error-count : length (errorsOf (bodyOf s 2)) ≡ errors
   pub choice-count : length (bodyOf s 3) ≡ choices
-  pub measurement-count : measured (operationsOf d n (bodyOf s 1)) operations ≡ choices
-  pub code-count : measurements (bodyOf s 1) operations ≡ choices
+  pub choices-taken : chosen (operationsOf d n (bodyOf s 1)) operations ≡ choices
+  pub taker-count : choiceTakers (bodyOf s 1) operations ≡ choices
+  pub measurement-count : measured (operationsOf d n (bodyOf s 1)) operations ≡ measurements (bodyOf s 1) operations
   pub lists : Accepted d n (operationsOf d n (bodyOf s 1)) (errorsOf (bodyOf s 2)) (bodyOf s 3)
 
 abbrev pub AcceptedMeans : Type 0

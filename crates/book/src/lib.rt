@@ -2,7 +2,7 @@
 ghost use mathlib.Core.Path.{_≡_};
 ghost use Prim.Native.Nat.{_+_, _*_, _<_, _≤_};
 ghost use lib.ListN.{length};
-ghost use Rattle.book_body.specs.Body.{answerOf};
+ghost use Rattle.book_body.specs.Body.{answerOf, measuredOf, measuredBy};
 ghost use Rattle.book.specs.Book.{headerFits, operationsEntry, errorsEntry, choicesEntry, endOf, partOf, entryFits, badContents, readBook, bodyOf};
 use book_body::Reading;
 use book_body::length_fits;
@@ -114,7 +114,8 @@ pub fn choices(book: &[u8]) -> &[u8]
 
 // A book's refusal by 1 to 7, or its numbers.
 pub fn read(book: &[u8]) -> Reading
-    ensures { λ r. ⌜ answerOf r ≡ readBook (now (book .entry)) ⌝ }
+    ensures { λ r. ⌜ (answerOf r ≡ readBook (now (book .entry)))
+        × (measuredOf r ≡ measuredBy (partOf (now (book .entry)) operationsEntry) (answerOf r)) ⌝ }
 {
     if !header_fits(book) {
         return Reading::Refused {

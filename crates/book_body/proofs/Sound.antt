@@ -11,7 +11,7 @@ use lib.ListN.{length}
 use borrow.Author.Tests.{eqb-true}
 use Rattle.search.specs.declared.Place.{Place}
 use Rattle.search.specs.declared.Place.the-variants.{At, Nowhere}
-use Rattle.book_body.specs.Body.{goodOperation, badOperation, measurements, badError, goodChoice, badChoice, ReaderAnswer, refused, accepted, refuseAt, readBodies}
+use Rattle.book_body.specs.Body.{goodOperation, badOperation, choiceTakers, badError, goodChoice, badChoice, ReaderAnswer, refused, accepted, refuseAt, readBodies}
 use Rattle.search.proofs.Search.{met, some-place, all-good}
 
 -- an answer that is no refusal
@@ -28,7 +28,7 @@ nowhere number Nowhere rest good e = (refl, e)
 pub record Sound (d n : ℕ) (os es cs : List ℕ) (t : ReaderAnswer) : Type 0 where
   pub operations : badOperation d n os ≡ Nowhere
   pub errors : badError d n (length os / 4) es ≡ Nowhere
-  pub choices : badChoice d (measurements os (length os / 4)) cs ≡ Nowhere
+  pub choices : badChoice d (choiceTakers os (length os / 4)) cs ≡ Nowhere
   pub numbers : accepted d n (length os / 4) (length es / 5) (length cs) ≡ t
 
 pub all-sound : {t : ReaderAnswer} (d n : ℕ) (os es cs : List ℕ) → NoRefusal t → readBodies d n os es cs ≡ t → Sound d n os es cs t
@@ -36,22 +36,22 @@ unfolding readBodies
 all-sound d n os es cs good e =
     let p5 = nowhere 5 (badOperation d n os) _ good e in
     let p6 = nowhere 6 (badError d n (length os / 4) es) _ good (p5 .1) in
-    let p7 = nowhere 7 (badChoice d (measurements os (length os / 4)) cs) _ good (p6 .1) in
+    let p7 = nowhere 7 (badChoice d (choiceTakers os (length os / 4)) cs) _ good (p6 .1) in
     record { operations = p5 .0; errors = p6 .0; choices = p7 .0; numbers = p7 .1 }
 
 module _ {d n : ℕ} {os es cs : List ℕ} {t : ReaderAnswer} (sound : Sound d n os es cs t) where
-  -- each entry is one of the seven operations
+  -- each entry is one of the nine operations, and what it names comes earlier
   pub each-operation : (k : ℕ) → k < length os / 4 → goodOperation d n os k ≡ true
   unfolding badOperation
   each-operation = all-good (goodOperation d n os) (length os / 4) (sound .operations)
 
-  -- there is a choice for each measurement, below d
-  pub one-each : length cs ≡ measurements os (length os / 4)
+  -- there is a choice for each measurement and each reset, below d
+  pub one-each : length cs ≡ choiceTakers os (length os / 4)
   unfolding badChoice
-  one-each = eqb-true _ _ (met (eqb (length cs) (measurements os (length os / 4))) some-place (sound .choices) .0)
+  one-each = eqb-true _ _ (met (eqb (length cs) (choiceTakers os (length os / 4))) some-place (sound .choices) .0)
 
   pub each-choice : (k : ℕ) → k < length cs → goodChoice d cs k ≡ true
   unfolding badChoice
   each-choice =
       all-good (goodChoice d cs) (length cs)
-      (met (eqb (length cs) (measurements os (length os / 4))) some-place (sound .choices) .1)
+      (met (eqb (length cs) (choiceTakers os (length os / 4))) some-place (sound .choices) .1)

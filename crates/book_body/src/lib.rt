@@ -2,7 +2,7 @@
 ghost use mathlib.Core.Path.{_≡_};
 ghost use Prim.Native.Nat.{_*_, _/_, _<_};
 ghost use lib.ListN.{length};
-ghost use Rattle.book_body.specs.Body.{lengthFits, badOperation, measurements, errorFits, badError, smaller, badChoice, readBodies, answerOf};
+ghost use Rattle.book_body.specs.Body.{lengthFits, namesEarlier, badOperation, measurements, choiceTakers, errorFits, badError, smaller, badChoice, readBodies, answerOf, measuredOf, measuredBy};
 use book_entries::Decoded;
 use operation::WeylError;
 use search::Place;
@@ -14,6 +14,7 @@ pub struct Numbers {
     pub operations: usize,
     pub errors: usize,
     pub choices: usize,
+    pub measurements: usize,
 }
 
 // The reader's answer.
@@ -31,33 +32,58 @@ pub fn length_fits(bytes: usize, size: usize, most: usize) -> bool
     (bytes % size == 0) & (bytes <= size * most)
 }
 
+// Whether the measurement that entry k names, if it is a correction, is one of the `earlier` ones.
+fn names_earlier(ops: &[u8], k: usize, earlier: usize) -> bool
+    requires { ⌜ k < length (now ops) / 4 ⌝ }
+    ensures { λ r. ⌜ r ≡ namesEarlier (now (ops .entry)) k earlier ⌝ }
+{
+    (ops[4 * k] != 8) | (book_entries::word(ops, 4 * k + 2) < earlier)
+}
+
 // 5: the first bad operation.
 pub fn bad_operation(ops: &[u8], d: u8, n: usize) -> Place
     ensures { λ r. ⌜ r ≡ badOperation d n (now (ops .entry)) ⌝ }
 {
     let count = ops.len() / 4;
+    let mut earlier = 0;
     let mut k = 0;
     while k < count {
         let Decoded::Good(_) = book_entries::operation_at(ops, k, d, n) else {
             return Place::At(k);
         };
+        if !names_earlier(ops, k, earlier) {
+            return Place::At(k);
+        }
+        earlier += search::one_if(ops[4 * k] == 6);
         k += 1;
     }
     Place::Nowhere
 }
 
-// How many of the operations are measurements.
-pub fn measurements(ops: &[u8]) -> usize
-    ensures { λ r. ⌜ r ≡ measurements (now (ops .entry)) (length (now (ops .entry)) / 4) ⌝ }
+// How many of the operations take a choice, and how many are measurements.
+struct Counts {
+    choices: usize,
+    measurements: usize,
+}
+
+fn count(ops: &[u8]) -> Counts
+    ensures { λ r. ⌜ (r .choices ≡ choiceTakers (now (ops .entry)) (length (now (ops .entry)) / 4))
+        × (r .measurements ≡ measurements (now (ops .entry)) (length (now (ops .entry)) / 4)) ⌝ }
 {
-    let count = ops.len() / 4;
-    let mut sum = 0;
+    let end = ops.len() / 4;
+    let mut choices = 0;
+    let mut measurements = 0;
     let mut k = 0;
-    while k < count {
-        sum += search::one_if(ops[4 * k] == 6);
+    while k < end {
+        let code = ops[4 * k];
+        choices += search::one_if((code == 6) | (code == 7));
+        measurements += search::one_if(code == 6);
         k += 1;
     }
-    sum
+    Counts {
+        choices,
+        measurements,
+    }
 }
 
 fn error_fits(d: u8, n: usize, count: usize, last: usize, e: WeylError) -> bool
@@ -90,13 +116,13 @@ fn smaller(a: usize, b: usize) -> usize
     if a < b { a } else { b }
 }
 
-// 7: the smaller count where choices and measurements differ in number; else the first choice not below d.
-pub fn bad_choice(choices: &[u8], measured: usize, d: u8) -> Place
-    ensures { λ r. ⌜ r ≡ badChoice d measured (now (choices .entry)) ⌝ }
+// 7: the smaller count where choices and those that take one differ in number; else the first choice not below d.
+pub fn bad_choice(choices: &[u8], taken: usize, d: u8) -> Place
+    ensures { λ r. ⌜ r ≡ badChoice d taken (now (choices .entry)) ⌝ }
 {
     let count = choices.len();
-    if count != measured {
-        return Place::At(smaller(count, measured));
+    if count != taken {
+        return Place::At(smaller(count, taken));
     }
     let mut k = 0;
     while k < count {
@@ -110,7 +136,8 @@ pub fn bad_choice(choices: &[u8], measured: usize, d: u8) -> Place
 
 // 5, 6 and 7 of three bodies, or their numbers.
 pub fn read_bodies(ops: &[u8], errors: &[u8], choices: &[u8], d: u8, n: usize) -> Reading
-    ensures { λ r. ⌜ answerOf r ≡ readBodies d n (now (ops .entry)) (now (errors .entry)) (now (choices .entry)) ⌝ }
+    ensures { λ r. ⌜ (answerOf r ≡ readBodies d n (now (ops .entry)) (now (errors .entry)) (now (choices .entry)))
+        × (measuredOf r ≡ measuredBy (now (ops .entry)) (answerOf r)) ⌝ }
 {
     if let Place::At(place) = bad_operation(ops, d, n) {
         return Reading::Refused { number: 5, place };
@@ -119,7 +146,8 @@ pub fn read_bodies(ops: &[u8], errors: &[u8], choices: &[u8], d: u8, n: usize) -
     if let Place::At(place) = bad_error(errors, operations, d, n) {
         return Reading::Refused { number: 6, place };
     }
-    if let Place::At(place) = bad_choice(choices, measurements(ops), d) {
+    let counts = count(ops);
+    if let Place::At(place) = bad_choice(choices, counts.choices, d) {
         return Reading::Refused { number: 7, place };
     }
     let numbers = Numbers {
@@ -128,6 +156,7 @@ pub fn read_bodies(ops: &[u8], errors: &[u8], choices: &[u8], d: u8, n: usize) -
         operations,
         errors: errors.len() / 5,
         choices: choices.len(),
+        measurements: counts.measurements,
     };
     Reading::Accepted(numbers)
 }

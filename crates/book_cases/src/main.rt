@@ -63,7 +63,7 @@ fn contents() {
 fn bodies() {
     // SUM of a qudit with itself; no such code
     changed(28, 0);
-    changed(34, 7);
+    changed(34, 9);
     // a place too high; a place that falls, in a book of two errors
     changed(38, 5);
     report(

@@ -3,12 +3,13 @@
 use mathlib.Core.Path.{_≡_, refl, ap, _∙_}
 use mathlib.Core.Bool.{Bool, true, false, cond, not, _&&_, and-eq-true-iff}
 use mathlib.Core.List.{List, [], _∷_}
-use Prim.Native.Nat.{ℕ, zero, suc, _<_}
+use Prim.Native.Nat.{ℕ, zero, suc, _+_, _*_, _/_, _%_, _<_}
+use native.Mathlib.Nat.{div-add-mod, mod-lt}
 use native.Mathlib.Omega.{arith}
-use lib.Dec.{eqb}
-use borrow.Author.Tests.{eqb-true, ne-eqb}
+use lib.Dec.{eqb, ltb}
+use borrow.Author.Tests.{eqb-true, ne-eqb, ltb-true, lt-ltb}
 use Rattle.operation.specs.declared.Operation.{Operation}
-use Rattle.operation.specs.declared.Operation.the-variants.{Fourier, PhaseGate, Sum, Cz, Swap, Multiplier, Measure}
+use Rattle.operation.specs.declared.Operation.the-variants.{Fourier, PhaseGate, Sum, Cz, Swap, Multiplier, Measure, Reset, Correct}
 use Rattle.operation.specs.Operation.{allowed}
 use Rattle.operation.proofs.Operands.{single-facts, pair-facts}
 use Rattle.book_entries.specs.declared.Decoded.{Decoded}
@@ -42,6 +43,10 @@ its-own d n (Cz c t k) h = let (a, b) = spelt-once k (pair-facts d n c t k h .3)
 its-own d n (Swap c t) h = rw h
 its-own d n (Multiplier q u) h = rw h
 its-own d n (Measure q) h = rw h
+its-own d n (Reset q) h = rw h
+its-own d n (Correct t m) h =
+    let q : m % 256 + 256 * (m / 256) ≡ m = omega (arith, div-add-mod m 256) in
+    rw (q, h, lt-ltb (m % 256) 256 (mod-lt m (omega arith)))
 
 either : (t : Bool) (x y : Decoded) (op : Operation) {A : Type 0} → (t ≡ true → x ≡ Good op → A) → (y ≡ Good op → A) → cond t x y ≡ Good op → A
 either true x y op f g e = f refl e
@@ -90,6 +95,17 @@ module _ (d n b0 b1 b2 b3 : ℕ) (op : Operation) where
   factor : (code : ℕ) → b0 ≡ code → eqb b2 0 ≡ true → bytes ≡ code ∷ b1 ∷ 0 ∷ b3 ∷ []
   factor code c u = cc (eqb-true b2 0 u)
 
+  -- a qudit and a number of two bytes
+  number : (code : ℕ) → b0 ≡ code → ltb b2 256 ≡ true → bytes ≡ code ∷ b1 ∷ (b2 + 256 * b3) % 256 ∷ (b2 + 256 * b3) / 256 ∷ []
+  number code c u =
+      let l = ltb-true b2 256 u in
+      let e = div-add-mod (b2 + 256 * b3) 256 in
+      let some : 0 < 256 = omega arith in
+      let r = mod-lt (b2 + 256 * b3) some in
+      let h : (b2 + 256 * b3) / 256 ≡ b3 = omega (arith, e, r, l) in
+      let q : (b2 + 256 * b3) % 256 ≡ b2 = omega (arith, e, h) in
+      rw (h, q, c)
+
   pub spelling : decoded d n b0 b1 b2 b3 ≡ Good op → Is
   unfolding decoded bytesOf
   spelling =
@@ -99,7 +115,9 @@ module _ (d n b0 b1 b2 b3 : ℕ) (op : Operation) where
       (line 3 (Cz b1 b2 (timesIn b3)) _ _ (two-times 3)
       (line 4 (Swap b1 b2) _ _ (two 4)
       (line 5 (Multiplier b1 b3) _ _ (factor 5)
-      (line 6 (Measure b1) _ _ (one 6) (λ e. (cc, cc))))))))
+      (line 6 (Measure b1) _ _ (one 6)
+      (line 7 (Reset b1) _ _ (one 7)
+      (line 8 (Correct b1 (b2 + 256 * b3)) _ _ (number 8) (λ e. (cc, cc))))))))))
 
 pub decoded-exactly : DecodedExactly
 decoded-exactly d n b0 b1 b2 b3 op =

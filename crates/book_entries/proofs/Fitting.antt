@@ -3,22 +3,23 @@
 use mathlib.Core.Path.{_≡_, refl, ap, _∙_}
 use mathlib.Core.Logic.{_≢_}
 use mathlib.Core.Bool.{Bool, true, false, cond, not, _&&_, _||_, and-assoc, and-comm, or-true, or-false}
-use Prim.Native.Nat.{ℕ, zero, suc, _<_, _≤_}
+use Prim.Native.Nat.{ℕ, zero, suc, _+_, _*_, _<_, _≤_}
 use native.Mathlib.Decide.{ℕ-discrete}
 use native.Mathlib.Omega.{arith}
-use lib.Dec.{eqb, ltb}
+use lib.Dec.{eqb, ltb, leb}
 use borrow.Author.Tests.{ne-eqb, lt-ltb, le-ltb, le-leb, lt-leb}
-use Rattle.operation.specs.declared.Operation.the-variants.{Fourier, PhaseGate, Sum, Cz, Swap, Multiplier, Measure}
+use Rattle.operation.specs.declared.Operation.the-variants.{Fourier, PhaseGate, Sum, Cz, Swap, Multiplier, Measure, Reset, Correct}
 use Rattle.operation.specs.Operation.{fromOne}
 use Rattle.book_entries.specs.Entry.{timesIn, goodIf, decoded, coded}
 use Rattle.book_entries.specs.Fits.{lastLimit, lastFits, fits}
 
--- a code that no gate has
+-- a code that no other operation has
 pub coded-other : (b0 b1 b2 b3 : ℕ)
-    → (((((Unit {0} × (b0 ≢ 0)) × (b0 ≢ 1)) × (b0 ≢ 2)) × (b0 ≢ 3)) × (b0 ≢ 4)) × (b0 ≢ 5)
-    → Measure b1 ≡ coded b0 b1 b2 b3
+    → (((((((Unit {0} × (b0 ≢ 0)) × (b0 ≢ 1)) × (b0 ≢ 2)) × (b0 ≢ 3)) × (b0 ≢ 4)) × (b0 ≢ 5)) × (b0 ≢ 6)) × (b0 ≢ 7)
+    → Correct b1 (b2 + 256 * b3) ≡ coded b0 b1 b2 b3
 unfolding coded
-coded-other b0 b1 b2 b3 ((((((i, x), y), z), u), v), w) = rw (ne-eqb b0 0 x, ne-eqb b0 1 y, ne-eqb b0 2 z, ne-eqb b0 3 u, ne-eqb b0 4 v, ne-eqb b0 5 w)
+coded-other b0 b1 b2 b3 ((((((((i, x), y), z), u), v), w), p), q) =
+    rw (ne-eqb b0 0 x, ne-eqb b0 1 y, ne-eqb b0 2 z, ne-eqb b0 3 u, ne-eqb b0 4 v, ne-eqb b0 5 w, ne-eqb b0 6 p, ne-eqb b0 7 q)
 
 -- tests in another order
 apart : (p a s b : Bool) → (p && a) && (s && b) ≡ p && (s && (a && b))
@@ -29,7 +30,7 @@ apart true false true b = refl
 
 -- Byte 3 where it is 0, for d above 1 and below 2, and where it is not.
 pub zero-once : (d b0 : ℕ) → 1 < d → not (eqb b0 5) ≡ lastFits d b0 0
-zero-once d b0 h = by (eqb b0 5) (eqb b0 0) (eqb b0 4 || eqb b0 6)
+zero-once d b0 h = by (eqb b0 5) (eqb b0 0) (eqb b0 4 || leb 6 b0)
   where
     by : (factor four two : Bool) → not factor ≡ cond factor false (ltb 1 (cond four 4 (cond two 2 d)) && true)
     by true four two = refl
@@ -37,7 +38,7 @@ zero-once d b0 h = by (eqb b0 5) (eqb b0 0) (eqb b0 4 || eqb b0 6)
     by false false true = refl
     by false false false = rw (lt-ltb 1 d h)
 
-pub zero-never : (d b0 : ℕ) → d ≤ 1 → eqb b0 0 || (eqb b0 4 || eqb b0 6) ≡ lastFits d b0 0
+pub zero-never : (d b0 : ℕ) → d ≤ 1 → eqb b0 0 || (eqb b0 4 || leb 6 b0) ≡ lastFits d b0 0
 zero-never d b0 h = by (ℕ-discrete b0 5)
   where
     limited : (four two : Bool) → four || two ≡ ltb 1 (cond four 4 (cond two 2 d)) && true
@@ -45,9 +46,9 @@ zero-never d b0 h = by (ℕ-discrete b0 5)
     limited false true = refl
     limited false false = rw (le-ltb 1 d h)
 
-    by : Dec (b0 ≡ 5) → eqb b0 0 || (eqb b0 4 || eqb b0 6) ≡ lastFits d b0 0
+    by : Dec (b0 ≡ 5) → eqb b0 0 || (eqb b0 4 || leb 6 b0) ≡ lastFits d b0 0
     by (yes e) = rw e
-    by (no e) = rw (ne-eqb b0 5 e) (limited (eqb b0 0) (eqb b0 4 || eqb b0 6))
+    by (no e) = rw (ne-eqb b0 5 e) (limited (eqb b0 0) (eqb b0 4 || leb 6 b0))
 
 pub not-zero : (d b0 b3 : ℕ) → b3 ≢ 0 → ltb b3 (lastLimit d b0) && (not (eqb b3 1) || eqb b0 5) ≡ lastFits d b0 b3
 not-zero d b0 b3 h = by (ℕ-discrete b0 5)
@@ -90,8 +91,11 @@ module _ (d n b1 b2 b3 : ℕ) where
       ap (λ t. goodIf t (Multiplier b1 b3)) (and-assoc (ltb b1 n) _ _ ∙ ap (λ l. ltb b1 n && l) (and-comm _ (eqb b2 0)))
   by-fits (suc (suc (suc (suc (suc (suc zero)))))) =
       ap (λ t. goodIf t (Measure b1)) (ap (λ l. ltb b1 n && (eqb b2 0 && l)) (once b3))
-  by-fits (suc (suc (suc (suc (suc (suc (suc b))))))) =
-      let k = suc (suc (suc (suc (suc (suc (suc b)))))) in
+  by-fits (suc (suc (suc (suc (suc (suc (suc zero))))))) =
+      ap (λ t. goodIf t (Reset b1)) (ap (λ l. ltb b1 n && (eqb b2 0 && l)) (once b3))
+  by-fits (suc (suc (suc (suc (suc (suc (suc (suc zero)))))))) = refl
+  by-fits (suc (suc (suc (suc (suc (suc (suc (suc (suc b))))))))) =
+      let k = suc (suc (suc (suc (suc (suc (suc (suc (suc b)))))))) in
       rw (
         ne-eqb k 0 (λ x. omega arith),
         ne-eqb k 1 (λ x. omega arith),
@@ -100,5 +104,7 @@ module _ (d n b1 b2 b3 : ℕ) where
         ne-eqb k 4 (λ x. omega arith),
         ne-eqb k 5 (λ x. omega arith),
         ne-eqb k 6 (λ x. omega arith),
-        lt-leb k 6 (omega arith),
+        ne-eqb k 7 (λ x. omega arith),
+        ne-eqb k 8 (λ x. omega arith),
+        lt-leb k 8 (omega arith),
       )

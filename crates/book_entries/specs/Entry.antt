@@ -3,11 +3,11 @@ use mathlib.Core.Path.{_≡_}
 use mathlib.Core.Logic.{_↔_}
 use mathlib.Core.Bool.{Bool, true, false, cond, not, _&&_}
 use mathlib.Core.List.{List, [], _∷_}
-use Prim.Native.Nat.{ℕ, _+_, _*_}
-use lib.Dec.{eqb}
+use Prim.Native.Nat.{ℕ, _+_, _*_, _/_, _%_}
+use lib.Dec.{eqb, ltb}
 use lib.ListN.{getD}
 use Rattle.operation.specs.declared.Operation.{Operation}
-use Rattle.operation.specs.declared.Operation.the-variants.{Fourier, PhaseGate, Sum, Cz, Swap, Multiplier, Measure}
+use Rattle.operation.specs.declared.Operation.the-variants.{Fourier, PhaseGate, Sum, Cz, Swap, Multiplier, Measure, Reset, Correct}
 use Rattle.operation.specs.declared.WeylError.{WeylError}
 use Rattle.operation.specs.Operation.{allowed}
 use Rattle.book_entries.specs.declared.Decoded.{Decoded}
@@ -36,6 +36,8 @@ bytesOf (Cz c t k) = 3 ∷ c ∷ t ∷ timesByte k ∷ []
 bytesOf (Swap c t) = 4 ∷ c ∷ t ∷ 0 ∷ []
 bytesOf (Multiplier q u) = 5 ∷ q ∷ 0 ∷ u ∷ []
 bytesOf (Measure q) = 6 ∷ q ∷ 0 ∷ 0 ∷ []
+bytesOf (Reset q) = 7 ∷ q ∷ 0 ∷ 0 ∷ []
+bytesOf (Correct t m) = 8 ∷ t ∷ m % 256 ∷ m / 256 ∷ []
 
 abbrev pub goodIf : Bool → Operation → Decoded
 goodIf true op = Good op
@@ -45,7 +47,8 @@ goodIf false op = Bad
 abbrev pub ifAllowed : ℕ → ℕ → Operation → Bool → Decoded
 ifAllowed d n op well-written = goodIf (allowed d n op && well-written) op
 
--- The operation that four bytes are.
+-- The operation that four bytes are. Bytes 2 and 3 of code 8 (low first) name a measurement; they are bytes, so that no number has two
+-- spellings.
 unfoldable pub decoded : ℕ → ℕ → ℕ → ℕ → ℕ → ℕ → Decoded
 decoded d n b0 b1 b2 b3 =
     cond (eqb b0 0) (ifAllowed d n (Fourier b1 (timesIn b3)) (eqb b2 0 && not (eqb b3 1)))
@@ -55,10 +58,12 @@ decoded d n b0 b1 b2 b3 =
     (cond (eqb b0 4) (ifAllowed d n (Swap b1 b2) (eqb b3 0))
     (cond (eqb b0 5) (ifAllowed d n (Multiplier b1 b3) (eqb b2 0))
     (cond (eqb b0 6) (ifAllowed d n (Measure b1) (eqb b2 0 && eqb b3 0))
-    Bad))))))
+    (cond (eqb b0 7) (ifAllowed d n (Reset b1) (eqb b2 0 && eqb b3 0))
+    (cond (eqb b0 8) (ifAllowed d n (Correct b1 (b2 + 256 * b3)) (ltb b2 256))
+    Bad))))))))
 
--- The operation of a code, whatever its operands: byte 1 is q or c, byte 2 is t, byte 3 says how often, or is u. Every code from 6 up is
--- the measurement.
+-- The operation of a code, whatever its operands: byte 1 is q or c, byte 2 is t, byte 3 says how often, or is u. Every code from 8 up is
+-- the correction.
 unfoldable pub coded : ℕ → ℕ → ℕ → ℕ → Operation
 coded b0 b1 b2 b3 =
     cond (eqb b0 0) (Fourier b1 (timesIn b3))
@@ -67,13 +72,15 @@ coded b0 b1 b2 b3 =
     (cond (eqb b0 3) (Cz b1 b2 (timesIn b3))
     (cond (eqb b0 4) (Swap b1 b2)
     (cond (eqb b0 5) (Multiplier b1 b3)
-    (Measure b1))))))
+    (cond (eqb b0 6) (Measure b1)
+    (cond (eqb b0 7) (Reset b1)
+    (Correct b1 (b2 + 256 * b3)))))))))
 
 -- entry k of a body of operations
 abbrev pub operationAt : ℕ → ℕ → List ℕ → ℕ → Decoded
 operationAt d n ops k = decoded d n (getD ops (4 * k) 0) (getD ops (4 * k + 1) 0) (getD ops (4 * k + 2) 0) (getD ops (4 * k + 3) 0)
 
--- A step is its index together with its operation; an entry that isn't one of the seven ends the reading there, with refusal 5.
+-- A step is its index together with its operation; an entry that isn't one of the nine ends the reading there, with refusal 5.
 abbrev pub stepOf : ℕ → Decoded → Taken
 stepOf k (Good op) = Next (record { index = k; operation = op })
 stepOf k Bad = Refused 5 k

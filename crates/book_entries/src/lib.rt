@@ -53,7 +53,7 @@ fn zero_fits(d: u8, b0: u8) -> bool
     if 1 < d {
         b0 != 5
     } else {
-        (b0 == 0) | ((b0 == 4) | (b0 == 6))
+        (b0 == 0) | ((b0 == 4) | (6 <= b0))
     }
 }
 
@@ -63,7 +63,7 @@ fn last_limit(d: u8, b0: u8) -> u8
     if b0 == 0 {
         return 4;
     }
-    if (b0 == 4) | (b0 == 6) { 2 } else { d }
+    if (b0 == 4) | (6 <= b0) { 2 } else { d }
 }
 
 // 0, which most entries have, is asked for first.
@@ -80,11 +80,15 @@ fn last_fits(d: u8, b0: u8, b3: u8) -> bool
 fn fits(d: u8, n: usize, b0: u8, b1: usize, b2: usize, b3: u8) -> bool
     ensures { λ r. ⌜ r ≡ fits d n b0 b1 b2 b3 ⌝ }
 {
-    ((b0 <= 6) & (b1 < n)) & (second_fits(n, b0, b1, b2) & last_fits(d, b0, b3))
+    if b0 == 8 {
+        return (b1 < n) & (b2 < 256);
+    }
+    ((b0 <= 8) & (b1 < n)) & (second_fits(n, b0, b1, b2) & last_fits(d, b0, b3))
 }
 
 // The operation of a code. Nothing is tested: for bytes that a reader has accepted.
 pub fn coded(b0: u8, b1: usize, b2: usize, b3: u8) -> Operation
+    requires { ⌜ b2 < 256 ⌝ }
     ensures { λ r. ⌜ r ≡ coded b0 b1 b2 b3 ⌝ }
 {
     let times = times_in(b3);
@@ -103,12 +107,18 @@ pub fn coded(b0: u8, b1: usize, b2: usize, b3: u8) -> Operation
         },
         4 => Operation::Swap { c: b1, t: b2 },
         5 => Operation::Multiplier { q: b1, u: b3 },
-        _ => Operation::Measure { q: b1 },
+        6 => Operation::Measure { q: b1 },
+        7 => Operation::Reset { q: b1 },
+        _ => {
+            let m = b2 + 256 * casts::byte_as_usize(b3);
+            Operation::Correct { t: b1, m }
+        }
     }
 }
 
 // The operation that four bytes are, for dimension d and n qudits.
 fn decode(d: u8, n: usize, b0: u8, b1: usize, b2: usize, b3: u8) -> Decoded
+    requires { ⌜ b2 < 256 ⌝ }
     ensures { λ r. ⌜ r ≡ decoded d n b0 b1 b2 b3 ⌝ }
 {
     if !fits(d, n, b0, b1, b2, b3) {

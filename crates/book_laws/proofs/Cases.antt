@@ -11,13 +11,13 @@ use Rattle.row.specs.Row.{tab, dot, pairing}
 use Rattle.tableau.specs.Tableau.{part}
 use Rattle.operation.specs.Error.{errorFrame}
 use Rattle.book_entries.specs.Entry.{decoded, errorAt}
-use Rattle.book_body.specs.Body.{badOperation, measurements, goodError, badError, badChoice, readBodies}
+use Rattle.book_body.specs.Body.{badOperation, measurements, choiceTakers, goodError, badError, badChoice, readBodies}
 use Rattle.book.specs.Book.{headerFits, entryFits, badContents, readBook, bodyOf}
 use Rattle.book.specs.Decoded.{operationsOf, errorsOf}
 use Rattle.validity.specs.Validity.{rowValid, valid}
 use Rattle.saved_tableau.specs.Saved.{selfValid}
 use Rattle.runs.specs.Frame.{errorsOnFrame}
-use Rattle.runs.specs.Raised.{carryBy, frameBefore, carriedFrame, shiftBy, resultShifts, raised}
+use Rattle.runs.specs.Raised.{carryBy, frameBefore, carried, raiseBy, choiceRaises, raised}
 use Rattle.frame_run.specs.FrameBook.{buffersOf}
 use Rattle.book_laws.specs.Lent.{Lent}
 use Rattle.book_laws.specs.Agreement.{raisedBook}
@@ -30,7 +30,7 @@ book =
 
 -- the second choice, byte 36, becomes 2 + 1 modulo 3, and no other byte differs
 second : raisedBook 3 1 book ≡ set book 36 0
-unfolding raisedBook raised resultShifts shiftBy carriedFrame carryBy frameBefore errorsOnFrame errorFrame listed firstNot tab decoded errorAt badOperation measurements goodError badError badChoice readBodies headerFits entryFits badContents readBook bodyOf operationsOf errorsOf
+unfolding raisedBook raised choiceRaises raiseBy carried carryBy frameBefore errorsOnFrame errorFrame listed firstNot tab decoded errorAt badOperation measurements choiceTakers goodError badError badChoice readBodies headerFits entryFits badContents readBook bodyOf operationsOf errorsOf
 second = refl
 
 -- The premises of demand 3 can be met: the zero tableau of one qutrit, a copy of it, and room for two results.

@@ -19,6 +19,7 @@ use Rattle.measurement_laws.specs.Stabilizers.{SameSet}
 use Rattle.measurement_laws.proofs.Sets.{same-set, same-back, same-through}
 use Rattle.runs.specs.Direct.{State, stateOf, directRun}
 use Rattle.runs.specs.Frame.{noFrame, frameRun}
+use Rattle.run_laws.proofs.Books.{named-in}
 use Rattle.run_laws.proofs.Results.{related-none, Equal}
 use Rattle.run_laws.proofs.Buffers.{Twin, twin-run}
 use Rattle.run_laws.proofs.Clean.{clean-lists}
@@ -56,14 +57,14 @@ module _ (s : List ℕ) {d n operations errors choices : ℕ} (e : readBook s �
   same : SameSet d n (clean-from started .rows) (clean-from copied .rows)
   same =
       let twin : Twin n (measurementsIn s d n) (measurementsIn s d n) (clean-from started) (clean-from copied) =
-      twin-run d n (omega (arith, dim .low)) (opsIn s d n) [] (choicesIn s)
+      twin-run d n (omega (arith, dim .low)) (opsIn s d n) [] (choicesIn s) (named-in (means .lists))
       (record { rows = window given; results = related-none Equal _ (given .frame-results) (given .direct-results) }) in
       same-set d n (λ i l. twin .rows .rows (n + i) (omega arith))
 
   compared : Compared d n (directBook (errorless d n s) t results) (frameBook s lent)
   unfolding frameRun
   compared =
-      let a = clean-lists d n dim (opsIn s d n) (errorsIn s) (choicesIn s) (noFrame n) (means .lists) started (start given) (lent .shifts) (lent .frame) in
+      let a = clean-lists d n dim (opsIn s d n) (errorsIn s) (choicesIn s) (noFrame n) (means .lists) started (start given) (lent .shifts) (lent .frame) (given .frame-results) in
       rw (
         direct-left given (errorless d n s) (taken .accepts) (rw (taken .same-operations)),
         taken .same-operations,

@@ -29,6 +29,7 @@ use Rattle.tray.proofs.Table.{table-says, body-inside}
 use Rattle.tray.proofs.GoodShots.{shot-good}
 use Rattle.runs.specs.Direct.{stateOf}
 use Rattle.runs.specs.Frame.{FrameEnd, verdictOf, frameLeaves, frameRunFrom, frameRun}
+use Rattle.run_laws.proofs.Books.{named-in}
 use Rattle.frame_run.specs.FrameBook.{Buffers, frameBuffersFit, frameEnded, frameByAnswer, frameBook}
 use Rattle.frame_run.proofs.Books.{room-of}
 use Rattle.shots.specs.Shots.{runOf, shotRow, cleanAmong, shiftedAmong, filledBy, TrayLeft, trayEnded, trayBuffersFit, trayByAnswer, trayBook}
@@ -43,9 +44,6 @@ module _ (s tray t out : List ℕ) {d n operations errors choices : ℕ} (e : re
 
   dim : Dimension d
   dim = dimension d (means .dimension-listed)
-
-  count : measurementsIn s d n ≡ choices
-  count = ap (measured (opsIn s d n)) (means .operation-count) ∙ means .measurement-count
 
   -- what holds where nothing refuses the tray, holds where its number is 0
   goes-cases : (P : TrayLeft → Type 0) → (Goes d n operations s tray t out → P (trayEnded d n (opsIn s d n) (choicesIn s) tray (rowsIn t) out))
@@ -109,7 +107,7 @@ module _ (s tray t out : List ℕ) {d n operations errors choices : ℕ} (e : re
     shifted-counted zero l = refl
     shifted-counted (suc k) l = rw (first-byte k l, shifted-counted k (omega arith), is-one k)
 
-    module _ (i : ℕ) (l : i < shotsIn tray) (lent : Buffers) (same : lent .tableau ≡ t) (fitting : frameBuffersFit n choices lent ≡ true) where
+    module _ (i : ℕ) (l : i < shotsIn tray) (lent : Buffers) (same : lent .tableau ≡ t) (fitting : frameBuffersFit n (measurementsIn s d n) lent ≡ true) where
       whole : lengthFits (length (shotBody tray i)) 5 2048 ≡ true
       whole =
           let h = table-says tray (g .table) in
@@ -127,24 +125,20 @@ module _ (s tray t out : List ℕ) {d n operations errors choices : ℕ} (e : re
 
       frame-left : frameBook (shotBook d n s tray i) lent ≡ frameEnded (measurementsIn s d n) t ended
       unfolding frameBook frameByAnswer
-      frame-left =
-          let room : frameBuffersFit n (measurementsIn s d n) lent ≡ true = rw count fitting in
-          rw (accepts, back .operations-back, back .errors-back, back .choices-back, room, same, g .tableau)
+      frame-left = rw (accepts, back .operations-back, back .errors-back, back .choices-back, fitting, same, g .tableau)
 
       bytes : part (i * w) w filled ≡ ended .verdict ∷ take (2 * measurementsIn s d n) (ended .results)
       bytes =
           shot-at d n (opsIn s d n) (choicesIn s) (rowsIn t) tray out (shotsIn tray) i l (rooms .1)
-          ∙ shot-any d n (omega (arith, dim .low)) (opsIn s d n) (errorsOf (shotBody tray i)) (choicesIn s) (rowsIn t) (lent .results) (lent .shifts) (lent .frame)
-          (omega (arith, length-drop 2 t, rooms .0)) (rw count (room-of n choices lent fitting .1 .results-room))
+          ∙ shot-any d n (omega (arith, dim .low)) (opsIn s d n) (named-in (means .lists)) (errorsOf (shotBody tray i)) (choicesIn s) (rowsIn t) (lent .results) (lent .shifts) (lent .frame)
+          (omega (arith, length-drop 2 t, rooms .0)) (room-of n (measurementsIn s d n) lent fitting .1 .results-room)
 
       shot-runs : ShotRuns d n operations choices s tray i lent filled
       shot-runs =
           record {
             accepts = accepts;
             succeeds = rw frame-left;
-            bytes =
-                rw frame-left
-                (subst (λ (x : ℕ). part (i * (1 + 2 * x)) (1 + 2 * x) filled ≡ ended .verdict ∷ take (2 * x) (ended .results)) count bytes);
+            bytes = rw frame-left bytes;
           }
 
 pub shots-are-frame-runs : ShotsAreFrameRuns
@@ -153,23 +147,21 @@ shots-are-frame-runs s tray t out d n operations errors choices e ends i l lent 
 
 pub tray-keeps-rest : TrayKeepsRest
 tray-keeps-rest s tray t out d n operations errors choices e =
-    goes-cases s tray t out e (λ left. RestKept (shotsIn tray * (1 + 2 * choices)) out (left .out)) (λ g. rw (← count s tray t out e) (rest-kept s tray t out e g))
+    goes-cases s tray t out e (λ left. RestKept (shotsIn tray * (1 + 2 * measurementsIn s d n)) out (left .out)) (λ g. rest-kept s tray t out e g)
 
 pub tray-counts : TrayCounts
 tray-counts s tray t out d n operations errors choices e =
     goes-cases s tray t out e
     (λ left.
     (left .place + left .shifted ≡ shotsIn tray)
-    × (left .place ≡ verdictsIn 0 (1 + 2 * choices) (left .out) (shotsIn tray))
-    × (left .shifted ≡ verdictsIn 1 (1 + 2 * choices) (left .out) (shotsIn tray)))
+    × (left .place ≡ verdictsIn 0 (1 + 2 * measurementsIn s d n) (left .out) (shotsIn tray))
+    × (left .shifted ≡ verdictsIn 1 (1 + 2 * measurementsIn s d n) (left .out) (shotsIn tray)))
     (λ g.
     let ops = opsIn s d n in
-    let filled = filledBy d n ops (choicesIn s) (rowsIn t) tray out (shotsIn tray) in
-    let same = count s tray t out e in
     let all = le-refl (shotsIn tray) in (
       counts-are d n ops (choicesIn s) (rowsIn t) tray (shotsIn tray),
-      clean-counted s tray t out e g (shotsIn tray) all ∙ ap (λ (x : ℕ). verdictsIn 0 (1 + 2 * x) filled (shotsIn tray)) same,
-      shifted-counted s tray t out e g (shotsIn tray) all ∙ ap (λ (x : ℕ). verdictsIn 1 (1 + 2 * x) filled (shotsIn tray)) same,
+      clean-counted s tray t out e g (shotsIn tray) all,
+      shifted-counted s tray t out e g (shotsIn tray) all,
     ))
 
 pub own-errors-unused : OwnErrorsUnused

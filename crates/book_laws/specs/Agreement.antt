@@ -14,8 +14,8 @@ use Rattle.direct_run.specs.DirectBook.{DirectLeft, directBook}
 use Rattle.frame_run.specs.FrameBook.{Buffers, FrameLeft, frameBook}
 use Rattle.book_laws.specs.Lent.{Lent}
 
--- The second book: the choice of each measurement is raised, modulo d, by the X power which the frame of the first book's errors
--- has on the measured qudit just before that measurement. The choices are the last body; no byte before them differs.
+-- The second book: the choice of each measurement, and of each reset, is raised, modulo d, by the X power which the frame of the first
+-- book's errors has on that qudit just before that operation. The choices are the last body; no byte before them differs.
 unfoldable pub raisedBook : ℕ → ℕ → List ℕ → List ℕ
 raisedBook d n s = take (offsetOf s choicesEntry) s ++ raised d n (opsIn s d n) (errorsIn s) (noFrame n) (choicesIn s)
 

@@ -8,6 +8,7 @@ use lib.ListN.{length, getD, take, drop}
 use Rattle.tableau.specs.Tableau.{part}
 use Rattle.book_body.specs.Body.{accepted}
 use Rattle.book.specs.Book.{readBook, bodyOf}
+use Rattle.book.specs.Decoded.{measurementsIn}
 use Rattle.written_book.specs.Written.{bookOf}
 use Rattle.written_book.specs.Errorless.{errorless}
 use Rattle.frame_run.specs.FrameBook.{Buffers, frameBuffersFit, frameBook}
@@ -22,15 +23,15 @@ shotBook d n s tray i = bookOf d n (bodyOf s 1) (shotBody tray i) (bodyOf s 3)
 pub record ShotRuns (d n operations choices : ℕ) (s tray : List ℕ) (i : ℕ) (lent : Buffers) (out : List ℕ) : Type 0 where
   pub accepts : readBook (shotBook d n s tray i) ≡ accepted d n operations (length (shotBody tray i) / 5) choices
   pub succeeds : frameBook (shotBook d n s tray i) lent .number ≡ 0
-  pub bytes : part (i * (1 + 2 * choices)) (1 + 2 * choices) out
-      ≡ frameBook (shotBook d n s tray i) lent .verdict ∷ take (2 * choices) (frameBook (shotBook d n s tray i) lent .left .results)
+  pub bytes : part (i * (1 + 2 * measurementsIn s d n)) (1 + 2 * measurementsIn s d n) out
+      ≡ frameBook (shotBook d n s tray i) lent .verdict ∷ take (2 * measurementsIn s d n) (frameBook (shotBook d n s tray i) lent .left .results)
 
 -- For each shot of a tray that is not refused, from the same tableau, and whatever the other lent buffers held.
 abbrev pub ShotsAreFrameRuns : Type 0
 ShotsAreFrameRuns = (s tray t out : List ℕ) (d n operations errors choices : ℕ) → readBook s ≡ accepted d n operations errors choices
     → trayBook s tray t out .number ≡ 0
     → (i : ℕ) → i < shotsIn tray
-    → (lent : Buffers) → lent .tableau ≡ t → frameBuffersFit n choices lent ≡ true
+    → (lent : Buffers) → lent .tableau ≡ t → frameBuffersFit n (measurementsIn s d n) lent ≡ true
     → ShotRuns d n operations choices s tray i lent (trayBook s tray t out .out)
 
 -- The bytes past the shots are kept.
@@ -41,7 +42,7 @@ pub record RestKept (used : ℕ) (out out' : List ℕ) : Type 0 where
 abbrev pub TrayKeepsRest : Type 0
 TrayKeepsRest = (s tray t out : List ℕ) (d n operations errors choices : ℕ) → readBook s ≡ accepted d n operations errors choices
     → trayBook s tray t out .number ≡ 0
-    → RestKept (shotsIn tray * (1 + 2 * choices)) out (trayBook s tray t out .out)
+    → RestKept (shotsIn tray * (1 + 2 * measurementsIn s d n)) out (trayBook s tray t out .out)
 
 -- how many of the first k shots, of w bytes each, have this verdict byte
 unfoldable pub verdictsIn : (verdict w : ℕ) → List ℕ → ℕ → ℕ
@@ -53,8 +54,8 @@ abbrev pub TrayCounts : Type 0
 TrayCounts = (s tray t out : List ℕ) (d n operations errors choices : ℕ) → readBook s ≡ accepted d n operations errors choices
     → trayBook s tray t out .number ≡ 0
     → (trayBook s tray t out .place + trayBook s tray t out .shifted ≡ shotsIn tray)
-    × (trayBook s tray t out .place ≡ verdictsIn 0 (1 + 2 * choices) (trayBook s tray t out .out) (shotsIn tray))
-    × (trayBook s tray t out .shifted ≡ verdictsIn 1 (1 + 2 * choices) (trayBook s tray t out .out) (shotsIn tray))
+    × (trayBook s tray t out .place ≡ verdictsIn 0 (1 + 2 * measurementsIn s d n) (trayBook s tray t out .out) (shotsIn tray))
+    × (trayBook s tray t out .shifted ≡ verdictsIn 1 (1 + 2 * measurementsIn s d n) (trayBook s tray t out .out) (shotsIn tray))
 
 -- The book's own errors are checked and not used: with them taken out the tray returns and fills the same.
 abbrev pub OwnErrorsUnused : Type 0

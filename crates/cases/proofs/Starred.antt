@@ -5,7 +5,7 @@ use mathlib.Core.List.{List, [], _∷_}
 use Prim.Native.Nat.{ℕ}
 use Rattle.modular.specs.Dimension.{inverse, powerOf}
 use Rattle.row.specs.Row.{tab, rowOf, dot, product, power}
-use Rattle.operation.specs.declared.Operation.the-variants.{Fourier, PhaseGate, Cz, Multiplier, Measure}
+use Rattle.operation.specs.declared.Operation.the-variants.{Fourier, PhaseGate, Cz, Multiplier, Measure, Reset, Correct}
 use Rattle.operation.specs.Gate.{gatePowers, gatePhase, gateRow}
 use Rattle.operation.specs.Error.{errorRow}
 use Rattle.row.specs.Generators.{zWith}
@@ -13,7 +13,7 @@ use Rattle.row_laws.specs.Scalar.{scalar}
 use Rattle.search.specs.Search.{firstNot}
 use Rattle.tableau.specs.Tableau.{part, put, eachRow}
 use Rattle.zero_tableau.specs.ZeroTableau.{zeroTableau}
-use Rattle.circuit.specs.Circuit.{measured}
+use Rattle.circuit.specs.Circuit.{measured, chosen}
 use Rattle.measurement.specs.Look.{pivotOf, combination, weighted, look}
 use Rattle.measurement.specs.Collapse.{collapseRow, collapse}
 use Rattle.runs.specs.Run.{stepsFrom, withResult}
@@ -70,10 +70,10 @@ abbrev start : State
 start = record { rows = zeros; results = 9 ∷ 9 ∷ [] }
 
 certain : directRun 3 1 (Measure 0 ∷ []) [] (2 ∷ []) start ≡ record { rows = zeros; results = 0 ∷ 0 ∷ [] }
-unfolding directRun stepsFrom directStep directErrors directKind directLook errorsOnRows measured withResult look pivotOf firstNot weighted combination scalar zeroTableau eachRow part put product power rowOf tab dot
+unfolding directRun stepsFrom directStep directErrors directKind directLook errorsOnRows measured chosen withResult look pivotOf firstNot weighted combination scalar zeroTableau eachRow part put product power rowOf tab dot
 certain = refl
 
 -- ★9 Fourier, then measure with choice 2: free 2, rows (1,0,0) and (0,1,1).
 free : directRun 3 1 (Fourier 0 1 ∷ Measure 0 ∷ []) [] (2 ∷ []) start ≡ record { rows = 1 ∷ 0 ∷ 0 ∷ 0 ∷ 1 ∷ 1 ∷ []; results = 2 ∷ 1 ∷ [] }
-unfolding directRun stepsFrom directStep directErrors directKind directLook errorsOnRows measured withResult look pivotOf firstNot collapse collapseRow zWith inverse powerOf zeroTableau eachRow part put product power rowOf tab dot gateRow gatePowers gatePhase
+unfolding directRun stepsFrom directStep directErrors directKind directLook errorsOnRows measured chosen withResult look pivotOf firstNot collapse collapseRow zWith inverse powerOf zeroTableau eachRow part put product power rowOf tab dot gateRow gatePowers gatePhase
 free = refl

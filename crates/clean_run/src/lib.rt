@@ -10,6 +10,7 @@ ghost use Rattle.circuit.specs.Circuit.{measurementCount, Accepted};
 ghost use Rattle.book.specs.Decoded.{operationsOf};
 ghost use Rattle.runs.specs.Direct.{stateOf, directRun};
 ghost use Rattle.measure_step.specs.Supplied.{RunTables};
+use runs::Position;
 
 // Every operation. The number of measurements.
 fn run_by(
@@ -23,7 +24,7 @@ fn run_by(
 ) -> usize
     requires { ⌜ RunTables d n (now tables)
         × Accepted d n (operationsOf d n (now ops)) [] (now choices)
-        × (2 * length (now choices) ≤ length (now results))
+        × (2 * measurementCount (operationsOf d n (now ops)) ≤ length (now results))
         × Valid d n (now t) ⌝ }
     ensures { λ r. ⌜ (stateOf (now (t .exit)) (now (results .exit))
         ≡ directRun d n (operationsOf d n (now (ops .entry))) [] (now (choices .entry)) (stateOf (now (t .entry)) (now (results .entry))))
@@ -31,13 +32,29 @@ fn run_by(
         × Valid d n (now (t .exit)) ⌝ }
 {
     let count = ops.len() / 4;
-    let mut j = 0;
+    let mut at = Position {
+        entry: 0,
+        measurements: 0,
+        choices: 0,
+    };
     let mut k = 0;
     while k < count {
-        j = direct_step::operate(t, results, ops, choices, k, j, tables, d, n);
+        direct_step::operate(
+            t,
+            results,
+            ops,
+            choices,
+            k,
+            at.choices,
+            at.measurements,
+            tables,
+            d,
+            n,
+        );
+        at = direct_step::counted(ops, k, at, d, n);
         k += 1;
     }
-    j
+    at.measurements
 }
 
 // The direct run without errors, by tables that are made once for all its steps. The number of measurements.
@@ -45,7 +62,7 @@ pub fn run(t: &mut [u8], results: &mut [u8], ops: &[u8], choices: &[u8], d: u8, 
     requires { ⌜ (listed d ≡ true)
         × (n ≤ 64)
         × Accepted d n (operationsOf d n (now ops)) [] (now choices)
-        × (2 * length (now choices) ≤ length (now results))
+        × (2 * measurementCount (operationsOf d n (now ops)) ≤ length (now results))
         × Valid d n (now t) ⌝ }
     ensures { λ r. ⌜ (stateOf (now (t .exit)) (now (results .exit))
         ≡ directRun d n (operationsOf d n (now (ops .entry))) [] (now (choices .entry)) (stateOf (now (t .entry)) (now (results .entry))))

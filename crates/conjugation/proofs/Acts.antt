@@ -20,7 +20,7 @@ use Rattle.row.specs.Row.{xOf, zOf}
 use Rattle.row.proofs.Laws.{powers-of}
 use Rattle.row_laws.proofs.Reading.{bytes, Reads, reads-row, made, tri-is, neg-is}
 use Rattle.operation.specs.declared.Operation.{Operation}
-use Rattle.operation.specs.declared.Operation.the-variants.{Fourier, PhaseGate, Sum, Cz, Swap, Multiplier, Measure}
+use Rattle.operation.specs.declared.Operation.the-variants.{Fourier, PhaseGate, Sum, Cz, Swap, Multiplier, Measure, Reset, Correct}
 use Rattle.operation.specs.Operation.{allowed}
 use Rattle.operation.specs.Gate.{withX, withZ, gatePowers, gatePhase, gateRow}
 use Rattle.operation.proofs.Operands.{distinct-facts, single-facts, pair-facts}
@@ -42,6 +42,8 @@ mapped d n (Cz c t k) u = put n t (u t) (u (n + t) + k * u c) (put n c (u c) (u 
 mapped d n (Swap c t) u = put n t (u c) (u (n + c)) (put n c (u t) (u (n + t)) u)
 mapped d n (Multiplier q m) u = put n q (m * u q) (inverse d m * u (n + q)) u
 mapped d n (Measure q) u = u
+mapped d n (Reset q) u = u
+mapped d n (Correct t m) u = u
 
 -- What it adds to the phase.
 unfoldable pub gained : ℕ → ℕ → Operation → (ℕ → ℕ) → ℕ
@@ -52,6 +54,8 @@ gained d n (Cz c t k) u = k * (u c * u t)
 gained d n (Swap c t) u = 0
 gained d n (Multiplier q m) u = 0
 gained d n (Measure q) u = 0
+gained d n (Reset q) u = 0
+gained d n (Correct t m) u = 0
 
 pub record Acts (d n : ℕ) (op : Operation) : Type 0 where
   pub hom : Hom d n (mapped d n op) (gained d n op)
@@ -105,6 +109,10 @@ module _ (f n : ℕ) where
   one-of k h = ne-eqb k 2 (λ z. omega (arith, eqb-true k 1 h))
 
   -- The inverse is used by its rule alone.
+  -- measurement, reset and correction do nothing here
+  no-gate : Hom d n (λ u. u) (λ u. 0)
+  no-gate = character d n (λ u. 0) (record { resp = λ u w h. same 0; add = λ u w. refl; none = refl })
+
   acts-odd : Dimension d → (op : Operation) → allowed d n op ≡ true → Acts d n op
   unfolding gatePowers gatePhase mapped gained
   acts-odd dim (Fourier q k) h =
@@ -159,12 +167,9 @@ module _ (f n : ℕ) where
         powers = λ v r s k. changed q s _ _ (stored l v r _ _ s) (factor _ m) (factor _ (inverse d m)) (same _);
         phase = λ v. same 0;
       }
-  acts-odd dim (Measure q) h =
-      record {
-        hom = character d n (λ u. 0) (record { resp = λ u w h. same 0; add = λ u w. refl; none = refl });
-        powers = λ v r s k. same _;
-        phase = λ v. same 0;
-      }
+  acts-odd dim (Measure q) h = record { hom = no-gate; powers = λ v r s k. same _; phase = λ v. same 0 }
+  acts-odd dim (Reset q) h = record { hom = no-gate; powers = λ v r s k. same _; phase = λ v. same 0 }
+  acts-odd dim (Correct t m) h = record { hom = no-gate; powers = λ v r s k. same _; phase = λ v. same 0 }
 
 pub acts : {d n : ℕ} → Dimension d → (op : Operation) → allowed d n op ≡ true → Acts d n op
 acts {d} {n} dim op h = subst (λ (z : ℕ). Dimension z → allowed z n op ≡ true → Acts z n op) (sym (dim .odd)) (λ k. acts-odd (dim .half) n k op) dim h

@@ -14,7 +14,7 @@ use Rattle.modular.specs.Dimension.{Dimension}
 use Rattle.row.specs.Row.{Row, phaseOf}
 use Rattle.row_laws.proofs.Reading.{bytes, Denotes, Reads, denotes, reads-self, unique, reads-cong, reads-product, pairing-small, pairing-means, pairing-is}
 use Rattle.operation.specs.declared.Operation.{Operation}
-use Rattle.operation.specs.declared.Operation.the-variants.{Fourier, PhaseGate, Sum, Cz, Swap, Multiplier, Measure}
+use Rattle.operation.specs.declared.Operation.the-variants.{Fourier, PhaseGate, Sum, Cz, Swap, Multiplier, Measure, Reset, Correct}
 use Rattle.operation.specs.Operation.{distinct, fromOne, allowed}
 use Rattle.operation.specs.Gate.{gatePowers, gateRow}
 use Rattle.operation.proofs.Operands.{distinct-facts, single-facts}
@@ -76,6 +76,8 @@ powers-on-frame d n (Cz c t k) h v = let (x, z, y, w) = places-two n c t (and-eq
 powers-on-frame d n (Swap c t) h v = let (x, z, y, w) = places-two n c t h in simp (take-set-lt, getD-take)
 powers-on-frame d n (Multiplier q m) h v = let (x, z) = places (single-facts d n q m h .0) in simp (take-set-lt, getD-take)
 powers-on-frame d n (Measure q) h v = refl
+powers-on-frame d n (Reset q) h v = refl
+powers-on-frame d n (Correct t m) h v = refl
 
 pub gate-on-frame : GateOnFrame
 unfolding gateRow

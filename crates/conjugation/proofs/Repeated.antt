@@ -8,7 +8,7 @@ use lib.Dec.{ltb}
 use borrow.Author.Tests.{lt-ltb, le-leb}
 use Rattle.modular.specs.Dimension.{Dimension}
 use Rattle.operation.specs.declared.Operation.{Operation}
-use Rattle.operation.specs.declared.Operation.the-variants.{Fourier, PhaseGate, Sum, Cz, Swap, Multiplier, Measure}
+use Rattle.operation.specs.declared.Operation.the-variants.{Fourier, PhaseGate, Sum, Cz, Swap, Multiplier, Measure, Reset, Correct}
 use Rattle.operation.specs.Operation.{distinct, fromOne, allowed}
 use Rattle.operation.specs.Gate.{gateRow, gateRows, gateFrame}
 use Rattle.operation.specs.Repeated.{repeated, timesOf, applied, once}
@@ -77,6 +77,8 @@ singly (suc e) n dim (Cz c t m) h =
 singly (suc e) n dim (Swap c t) h = single (suc e) n (Swap c t) (λ k. refl) refl h
 singly (suc e) n dim (Multiplier q u) h = single (suc e) n (Multiplier q u) (λ k. refl) refl h
 singly (suc e) n dim (Measure q) h = single (suc e) n (Measure q) (λ k. refl) refl h
+singly (suc e) n dim (Reset q) h = single (suc e) n (Reset q) (λ k. refl) refl h
+singly (suc e) n dim (Correct t m) h = single (suc e) n (Correct t m) (λ k. refl) refl h
 
 as-often : (op : Operation) → applied (timesOf op) op ≡ op
 as-often (Fourier q k) = refl
@@ -86,6 +88,8 @@ as-often (Cz c t k) = refl
 as-often (Swap c t) = refl
 as-often (Multiplier q u) = refl
 as-often (Measure q) = refl
+as-often (Reset q) = refl
+as-often (Correct t m) = refl
 
 -- Any f k that is f 1 after f (k − 1) is f 1 so often.
 repeats : {A : Type 0} (f : ℕ → A → A) (a : A) (most : ℕ) → ((k : ℕ) → 0 < k → k < most → f 1 (f k a) ≡ f (k + 1) a)

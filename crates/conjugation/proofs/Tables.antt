@@ -19,7 +19,7 @@ use Rattle.row.specs.Row.{power}
 use Rattle.row_laws.specs.Scalar.{none, scalar}
 use Rattle.row_laws.proofs.Reading.{Reads, reads-row, unique, reads-cong, reads-scalar, neg-is}
 use Rattle.operation.specs.declared.Operation.{Operation}
-use Rattle.operation.specs.declared.Operation.the-variants.{Fourier, PhaseGate, Sum, Cz, Swap, Multiplier, Measure}
+use Rattle.operation.specs.declared.Operation.the-variants.{Fourier, PhaseGate, Sum, Cz, Swap, Multiplier, Measure, Reset, Correct}
 use Rattle.operation.specs.Operation.{distinct, fromOne, allowed}
 use Rattle.operation.specs.Gate.{gatePowers, gatePhase, gateRow}
 use Rattle.operation.proofs.Operands.{distinct-facts, single-facts}
@@ -256,6 +256,16 @@ module _ (d n : ℕ) (dim : Dimension d) where
       record {
         onX = λ j k. plain d n (Measure q) (xOn n j) h (reads-row (x-on low k .reads)) refl;
         onZ = λ j k. plain d n (Measure q) (zOn n j) h (reads-row (z-on low k .reads)) refl;
+      }
+  tables (Reset q) h =
+      record {
+        onX = λ j k. plain d n (Reset q) (xOn n j) h (reads-row (x-on low k .reads)) refl;
+        onZ = λ j k. plain d n (Reset q) (zOn n j) h (reads-row (z-on low k .reads)) refl;
+      }
+  tables (Correct t m) h =
+      record {
+        onX = λ j k. plain d n (Correct t m) (xOn n j) h (reads-row (x-on low k .reads)) refl;
+        onZ = λ j k. plain d n (Correct t m) (zOn n j) h (reads-row (z-on low k .reads)) refl;
       }
 
   scalars : (op : Operation) → allowed d n op ≡ true → (r : ℕ) → r < d → gateRow d n op (scalar n r) ≡ scalar n r

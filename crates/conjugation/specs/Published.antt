@@ -7,7 +7,7 @@ use Rattle.modular.specs.Modular.{neg}
 use Rattle.modular.specs.Dimension.{inverse}
 use Rattle.row.specs.Row.{product, power}
 use Rattle.operation.specs.declared.Operation.{Operation}
-use Rattle.operation.specs.declared.Operation.the-variants.{Fourier, PhaseGate, Sum, Cz, Swap, Multiplier, Measure}
+use Rattle.operation.specs.declared.Operation.the-variants.{Fourier, PhaseGate, Sum, Cz, Swap, Multiplier, Measure, Reset, Correct}
 use Rattle.conjugation.specs.Generators.{xOn, zOn}
 
 -- Fourier     X → Z,            Z → X⁻¹                       (001, figure 2)
@@ -32,6 +32,8 @@ imageX d n (Cz c t k) j = cond (eqb j c) (product d n (xOn n c) (power d n k (zO
 imageX d n (Swap c t) j = cond (eqb j c) (xOn n t) (cond (eqb j t) (xOn n c) (xOn n j))
 imageX d n (Multiplier q u) j = cond (eqb j q) (power d n u (xOn n q)) (xOn n j)
 imageX d n (Measure q) j = xOn n j
+imageX d n (Reset q) j = xOn n j
+imageX d n (Correct t m) j = xOn n j
 
 unfoldable pub imageZ : ℕ → ℕ → Operation → ℕ → List ℕ
 imageZ d n (Fourier q k) j = cond (eqb j q) (fourierOfZ d n q k) (zOn n j)
@@ -41,3 +43,5 @@ imageZ d n (Cz c t k) j = zOn n j
 imageZ d n (Swap c t) j = cond (eqb j c) (zOn n t) (cond (eqb j t) (zOn n c) (zOn n j))
 imageZ d n (Multiplier q u) j = cond (eqb j q) (power d n (inverse d u) (zOn n q)) (zOn n j)
 imageZ d n (Measure q) j = zOn n j
+imageZ d n (Reset q) j = zOn n j
+imageZ d n (Correct t m) j = zOn n j

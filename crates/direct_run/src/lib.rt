@@ -25,7 +25,7 @@ fn run_by(
     n: usize,
 ) -> usize
     requires { ⌜ Inputs d n (now ops) (now errors) (now choices) (now tables)
-        × (2 * length (now choices) ≤ length (now results))
+        × (2 * measurementCount (operationsOf d n (now ops)) ≤ length (now results))
         × Valid d n (now t) ⌝ }
     ensures { λ r. ⌜ (stateOf (now (t .exit)) (now (results .exit))
         ≡ directRun d n (operationsOf d n (now (ops .entry))) (errorsOf (now (errors .entry))) (now (choices .entry))
@@ -36,6 +36,7 @@ fn run_by(
     let mut at = Position {
         entry: 0,
         measurements: 0,
+        choices: 0,
     };
     let mut k = 0;
     while k < count {
@@ -59,7 +60,7 @@ fn run(
     n: usize,
 ) -> Answer
     requires { ⌜ Bodies d n (now ops) (now errors) (now choices)
-        × (2 * length (now choices) ≤ length (now results))
+        × (2 * measurementCount (operationsOf d n (now ops)) ≤ length (now results))
         × (tableauBytes n ≤ length (now t))
         × Valid d n (rowsIn (now t)) ⌝ }
     ensures { λ r. ⌜ directLeft r (now (t .exit)) (now (results .exit))
@@ -96,7 +97,7 @@ pub fn direct_run(book: &[u8], t: &mut [u8], results: &mut [u8]) -> Answer
     };
     let d = numbers.d;
     let n = numbers.n;
-    if !buffers_fit(t, results, numbers.choices, n) {
+    if !buffers_fit(t, results, numbers.measurements, n) {
         return Answer {
             number: 8,
             place: 0,

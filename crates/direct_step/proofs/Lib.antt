@@ -1,2 +1,3 @@
 -- What the proofs of several functions use.
 pub mod Steps
+pub mod Counting

@@ -4,9 +4,11 @@ ghost use mathlib.Core.Bool.{true};
 ghost use Prim.Native.Nat.{_+_, _*_, _/_, _<_, _≤_};
 ghost use lib.ListN.{length};
 ghost use Rattle.validity.specs.Validity.{Valid};
-ghost use Rattle.operation.specs.Operation.{allowed};
-ghost use Rattle.circuit.specs.Circuit.{opAt, tally, ErrorsInOrder};
+ghost use Rattle.operation.specs.Operation.{allowed, named};
+ghost use Rattle.operation.specs.Error.{errorRows, minusX};
+ghost use Rattle.circuit.specs.Circuit.{opAt, tally, measurementCount, choiceTally, ErrorsInOrder};
 ghost use Rattle.book.specs.Decoded.{operationsOf, errorsOf};
+ghost use Rattle.runs.specs.Run.{resultOf};
 ghost use Rattle.runs.specs.Reached.{Reached, AtStep};
 ghost use Rattle.runs.specs.Direct.{stateOf, errorsOnRows, directOperation, directStep};
 ghost use Rattle.measure_step.specs.Supplied.{RunTables, Supplied};
@@ -48,12 +50,26 @@ pub fn apply_errors(
     i
 }
 
-// Does the operation of a step on the rows; measurement j takes choice j.
+// Corrects qudit q by the result of measurement m, taken modulo d: X to the minus that result is applied.
+fn correct(t: &mut [u8], results: &[u8], m: usize, q: usize, tables: &[u8], d: u8, n: usize)
+    requires { ⌜ RunTables d n (now tables)
+        × (q < n)
+        × (2 * m < length (now results))
+        × Valid d n (now t) ⌝ }
+    ensures { λ _. ⌜ (now (t .exit) ≡ errorRows d n (minusX d q (resultOf d (now (results .entry)) m)) (now (t .entry)))
+        × Valid d n (now (t .exit)) ⌝ }
+{
+    let r = results[2 * m] % d;
+    error::minus_x_rows(t, q, r, tables, d, n);
+}
+
+// Does the operation of a step on the rows, c choices having been taken and j results given before it.
 fn perform(
     t: &mut [u8],
     results: &mut [u8],
     choices: &[u8],
     step: Step,
+    c: usize,
     j: usize,
     tables: &[u8],
     d: u8,
@@ -61,52 +77,81 @@ fn perform(
 )
     requires { ⌜ RunTables d n (now tables)
         × (allowed d n (step .operation) ≡ true)
-        × Supplied d j (tally (step .operation)) (now choices) (now results)
+        × (named j (step .operation) ≡ true)
+        × Supplied d c (choiceTally (step .operation)) (now choices)
+        × (2 * (j + tally (step .operation)) ≤ length (now results))
         × Valid d n (now t) ⌝ }
     ensures { λ _. ⌜ (stateOf (now (t .exit)) (now (results .exit))
-        ≡ directOperation d n (now (choices .entry)) j (stateOf (now (t .entry)) (now (results .entry))) (step .operation))
+        ≡ directOperation d n (now (choices .entry)) c j (stateOf (now (t .entry)) (now (results .entry))) (step .operation))
         × Valid d n (now (t .exit))
         × (length (now (results .exit)) ≡ length (now (results .entry))) ⌝ }
 {
     let operation = step.operation;
-    if let Operation::Measure { q } = operation {
-        measure_step::measure(t, results, choices, j, q, tables, d, n);
-        return;
+    match operation {
+        Operation::Measure { q } => {
+            measure_step::measure(t, results, choices, c, j, q, tables, d, n);
+        }
+        Operation::Reset { q } => {
+            measure_step::reset(t, choices, c, q, tables, d, n);
+        }
+        Operation::Correct { t: q, m } => {
+            correct(t, results, m, q, tables, d, n);
+        }
+        _ => {
+            gate::gate_rows(t, operation, tables, d, n);
+        }
     }
-    gate::gate_rows(t, operation, tables, d, n);
 }
 
-// Operation k, which j measurements come before. How many have come with it is returned.
+// Operation k, c choices having been taken and j results given before it.
 pub fn operate(
     t: &mut [u8],
     results: &mut [u8],
     ops: &[u8],
     choices: &[u8],
     k: usize,
+    c: usize,
     j: usize,
     tables: &[u8],
     d: u8,
     n: usize,
-) -> usize
+)
     requires { ⌜ (k < length (now ops) / 4)
         × RunTables d n (now tables)
         × (allowed d n (opAt (operationsOf d n (now ops)) k) ≡ true)
-        × Supplied d j (tally (opAt (operationsOf d n (now ops)) k)) (now choices) (now results)
+        × (named j (opAt (operationsOf d n (now ops)) k) ≡ true)
+        × Supplied d c (choiceTally (opAt (operationsOf d n (now ops)) k)) (now choices)
+        × (2 * (j + tally (opAt (operationsOf d n (now ops)) k)) ≤ length (now results))
         × Valid d n (now t) ⌝ }
-    ensures { λ r. ⌜ (stateOf (now (t .exit)) (now (results .exit))
-        ≡ directOperation d n (now (choices .entry)) j (stateOf (now (t .entry)) (now (results .entry)))
+    ensures { λ _. ⌜ (stateOf (now (t .exit)) (now (results .exit))
+        ≡ directOperation d n (now (choices .entry)) c j (stateOf (now (t .entry)) (now (results .entry)))
         (opAt (operationsOf d n (now (ops .entry))) k))
-        × (r ≡ j + tally (opAt (operationsOf d n (now (ops .entry))) k))
         × Valid d n (now (t .exit))
         × (length (now (results .exit)) ≡ length (now (results .entry))) ⌝ }
 {
     let Taken::Next(step) = book_entries::step_at(ops, k, d, n) else {
         // never: the reader let every entry pass
-        return j;
+        return;
     };
-    perform(t, results, choices, step, j, tables, d, n);
-    let operation = step.operation;
-    j + circuit::tally(operation)
+    perform(t, results, choices, step, c, j, tables, d, n);
+}
+
+// Counts operation k by its code. (Counted within `operate`, the numbers would take registers from the gates' loops.)
+pub fn counted(ops: &[u8], k: usize, at: Position, d: u8, n: usize) -> Position
+    requires { ⌜ (k < length (now ops) / 4)
+        × (allowed d n (opAt (operationsOf d n (now ops)) k) ≡ true)
+        × (at .measurements ≤ k)
+        × (at .choices ≤ k) ⌝ }
+    ensures { λ r. ⌜ (r .entry ≡ at .entry)
+        × (r .measurements ≡ at .measurements + tally (opAt (operationsOf d n (now (ops .entry))) k))
+        × (r .choices ≡ at .choices + choiceTally (opAt (operationsOf d n (now (ops .entry))) k)) ⌝ }
+{
+    let code = ops[4 * k];
+    Position {
+        entry: at.entry,
+        measurements: at.measurements + search::one_if(code == 6),
+        choices: at.choices + search::one_if((code == 6) | (code == 7)),
+    }
 }
 
 // Step k: the errors of place k, then operation k.
@@ -125,7 +170,7 @@ pub fn advance(
     requires { ⌜ (k < length (now ops) / 4)
         × Inputs d n (now ops) (now errors) (now choices) (now tables)
         × AtStep (operationsOf d n (now ops)) (errorsOf (now errors)) k at
-        × (2 * length (now choices) ≤ length (now results))
+        × (2 * measurementCount (operationsOf d n (now ops)) ≤ length (now results))
         × Valid d n (now t) ⌝ }
     ensures { λ r. ⌜ (stateOf (now (t .exit)) (now (results .exit))
         ≡ directStep d n (operationsOf d n (now (ops .entry))) (errorsOf (now (errors .entry))) (now (choices .entry)) k
@@ -136,9 +181,22 @@ pub fn advance(
 {
     let from = at.entry;
     let entry = apply_errors(t, errors, from, k, tables, d, n);
-    let measurements = operate(t, results, ops, choices, k, at.measurements, tables, d, n);
-    Position {
+    operate(
+        t,
+        results,
+        ops,
+        choices,
+        k,
+        at.choices,
+        at.measurements,
+        tables,
+        d,
+        n,
+    );
+    let before = Position {
         entry,
-        measurements,
-    }
+        measurements: at.measurements,
+        choices: at.choices,
+    };
+    counted(ops, k, before, d, n)
 }

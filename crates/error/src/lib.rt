@@ -6,7 +6,7 @@ ghost use lib.ListN.{length};
 ghost use Rattle.row.specs.Row.{Row};
 ghost use Rattle.tableau.specs.Tableau.{Tableau, put, row};
 ghost use Rattle.tables.specs.Tables.{Tables};
-ghost use Rattle.operation.specs.Error.{errorAllowed, errorRow, errorRows};
+ghost use Rattle.operation.specs.Error.{errorAllowed, errorRow, errorRows, minusX};
 use operation::WeylError;
 
 // −p is d − p, which is at most d.
@@ -53,4 +53,22 @@ pub fn error_rows(t: &mut [u8], e: WeylError, tables: &[u8], d: u8, n: usize)
         error_at(t, i, e, tables, d, n);
         i += 1;
     }
+}
+
+// X to the minus r on qudit q, on every row.
+pub fn minus_x_rows(t: &mut [u8], q: usize, r: u8, tables: &[u8], d: u8, n: usize)
+    requires { ⌜ (n ≤ 64)
+        × (q < n)
+        × (r < d)
+        × Tables d (now tables)
+        × Tableau d n (now t) ⌝ }
+    ensures { λ _. ⌜ now (t .exit) ≡ errorRows d n (minusX d q r) (now (t .entry)) ⌝ }
+{
+    let e = WeylError {
+        place: 0,
+        qudit: q,
+        p: modular::negative(d, r),
+        s: 0,
+    };
+    error_rows(t, e, tables, d, n);
 }

@@ -1,4 +1,5 @@
-// A frame carried over a circuit: errors and gates change it, and each result gains its X power on the measured qudit.
+// A frame carried over a circuit: errors, gates, resets and corrections change it, and each result gains its X power on the measured
+// qudit.
 ghost use mathlib.Core.Path.{_≡_};
 ghost use mathlib.Core.Bool.{true};
 ghost use Prim.Native.Nat.{_+_, _*_, _/_, _<_, _≤_};
@@ -6,16 +7,15 @@ ghost use lib.ListN.{length};
 ghost use Rattle.modular.specs.Modular.{Reciprocal};
 ghost use Rattle.modular.specs.Dimension.{listed};
 ghost use Rattle.row.specs.Row.{Powers};
-ghost use Rattle.operation.specs.Operation.{allowed};
-ghost use Rattle.operation.specs.Gate.{gateFrame};
-ghost use Rattle.circuit.specs.Circuit.{kind, tally, ErrorsInOrder};
+ghost use Rattle.operation.specs.Operation.{allowed, named};
+ghost use Rattle.circuit.specs.Circuit.{kind, tally, measurementCount, ErrorsInOrder};
 ghost use Rattle.book.specs.Decoded.{operationsOf, errorsOf};
 ghost use Rattle.runs.specs.Reached.{Reached, AtStep};
 ghost use Rattle.runs.specs.Frame.{errorsOnFrame};
 ghost use Rattle.runs.specs.Raised.{finalFrame};
 ghost use Rattle.runs.specs.Carry.{reported};
-ghost use Rattle.frame_carry.specs.CarryInputs.{CarryInputs};
-ghost use Rattle.frame_carry.specs.Shifted.{shiftedBy, frameAfter, resultsAfter};
+ghost use Rattle.frame_carry.specs.CarryInputs.{CarryInputs, Noted};
+ghost use Rattle.frame_carry.specs.Shifted.{movedBy, shiftedBy, notedBy, frameAfter, resultsAfter, shiftsAfter};
 use operation::Operation;
 use operation::Step;
 use runs::Position;
@@ -45,29 +45,54 @@ fn apply_errors(frame: &mut [u8], errors: &[u8], j: usize, k: usize, d: u8, n: u
     i
 }
 
-// The operation of a step: a gate on the frame, the frame's X power to the outcome of measurement j.
-fn perform(frame: &mut [u8], results: &mut [u8], step: Step, j: usize, d: u8, m: u16, n: usize)
+// The operation of a step: a gate on the frame, the frame's X power to the outcome of measurement j and to its shift; a reset clears the X
+// power, and a correction takes out of it the shift of an earlier measurement.
+fn perform(
+    frame: &mut [u8],
+    results: &mut [u8],
+    shifts: &mut [u8],
+    step: Step,
+    j: usize,
+    d: u8,
+    m: u16,
+    n: usize,
+)
     requires { ⌜ (listed d ≡ true)
         × (allowed d n (step .operation) ≡ true)
+        × (named j (step .operation) ≡ true)
         × (2 * (j + tally (step .operation)) ≤ length (now results))
+        × Noted d (j + tally (step .operation)) j (now shifts)
         × Powers d n (now frame)
         × Reciprocal d m ⌝ }
-    ensures { λ _. ⌜ (now (frame .exit) ≡ gateFrame d n (step .operation) (now (frame .entry)))
+    ensures { λ _. ⌜ (now (frame .exit) ≡ movedBy d n (step .operation) (kind (step .operation)) (now (shifts .entry)) (now (frame .entry)))
         × (now (results .exit) ≡ shiftedBy d j (kind (step .operation)) (now (frame .entry)) (now (results .entry)))
+        × (now (shifts .exit) ≡ notedBy j (kind (step .operation)) (now (frame .entry)) (now (shifts .entry)))
         × Powers d n (now (frame .exit)) ⌝ }
 {
     let operation = step.operation;
-    if let Operation::Measure { q } = operation {
-        results[2 * j] = modular::reduce_sum(results[2 * j], frame[q], d, m);
-        return;
+    match operation {
+        Operation::Measure { q } => {
+            let x = frame[q];
+            shifts[j] = x;
+            results[2 * j] = modular::reduce_sum(results[2 * j], x, d, m);
+        }
+        Operation::Reset { q } => {
+            frame[q] = 0;
+        }
+        Operation::Correct { t, m: of } => {
+            frame[t] = modular::subtract(d, frame[t], shifts[of]);
+        }
+        _ => {
+            frame_powers::gate_frame(frame, operation, d, m, n);
+        }
     }
-    frame_powers::gate_frame(frame, operation, d, m, n);
 }
 
 // Step k: the errors of place k, then operation k.
 fn advance(
     frame: &mut [u8],
     results: &mut [u8],
+    shifts: &mut [u8],
     ops: &[u8],
     errors: &[u8],
     k: usize,
@@ -79,12 +104,15 @@ fn advance(
     requires { ⌜ (k < length (now ops) / 4)
         × CarryInputs d n (now ops) (now errors) (now results)
         × AtStep (operationsOf d n (now ops)) (errorsOf (now errors)) k at
+        × Noted d (measurementCount (operationsOf d n (now ops))) (at .measurements) (now shifts)
         × Powers d n (now frame)
         × Reciprocal d m ⌝ }
     ensures { λ r. ⌜ (now (frame .exit)
-        ≡ frameAfter d n (operationsOf d n (now (ops .entry))) (errorsOf (now (errors .entry))) k (now (frame .entry)))
+        ≡ frameAfter d n (operationsOf d n (now (ops .entry))) (errorsOf (now (errors .entry))) k (now (shifts .entry)) (now (frame .entry)))
         × (now (results .exit)
         ≡ resultsAfter d n (operationsOf d n (now (ops .entry))) (errorsOf (now (errors .entry))) k (now (frame .entry)) (now (results .entry)))
+        × (now (shifts .exit)
+        ≡ shiftsAfter d n (operationsOf d n (now (ops .entry))) (errorsOf (now (errors .entry))) k (now (frame .entry)) (now (shifts .entry)))
         × AtStep (operationsOf d n (now (ops .entry))) (errorsOf (now (errors .entry))) (k + 1) r
         × Powers d n (now (frame .exit)) ⌝ }
 {
@@ -96,12 +124,50 @@ fn advance(
         index: k,
         operation,
     };
-    perform(frame, results, step, j, d, m, n);
+    perform(frame, results, shifts, step, j, d, m, n);
     let measurements = j + circuit::tally(operation);
+    let choices = at.choices + circuit::choice_tally(operation);
     Position {
         entry,
         measurements,
+        choices,
     }
+}
+
+// All operations with the errors before and after them, with room for the shift of each result.
+fn carry_in(
+    frame: &mut [u8],
+    results: &mut [u8],
+    shifts: &mut [u8],
+    ops: &[u8],
+    errors: &[u8],
+    d: u8,
+    n: usize,
+)
+    requires { ⌜ CarryInputs d n (now ops) (now errors) (now results)
+        × (measurementCount (operationsOf d n (now ops)) ≤ length (now shifts))
+        × Powers d n (now frame) ⌝ }
+    ensures { λ _. ⌜ (now (frame .exit)
+        ≡ finalFrame d n (operationsOf d n (now (ops .entry))) (errorsOf (now (errors .entry))) (now (frame .entry)))
+        × (now (results .exit)
+        ≡ reported d n (operationsOf d n (now (ops .entry))) (errorsOf (now (errors .entry))) (now (frame .entry)) (now (results .entry)))
+        × Powers d n (now (frame .exit))
+        × (length (now (frame .exit)) ≡ length (now (frame .entry))) ⌝ }
+{
+    let m = modular::reciprocal(d);
+    let count = ops.len() / 4;
+    let mut at = Position {
+        entry: 0,
+        measurements: 0,
+        choices: 0,
+    };
+    let mut k = 0;
+    while k < count {
+        at = advance(frame, results, shifts, ops, errors, k, at, d, m, n);
+        k += 1;
+    }
+    let from = at.entry;
+    apply_errors(frame, errors, from, k, d, n);
 }
 
 // All operations with the errors before and after them, from any frame: the frame becomes the final one, and each outcome gains its
@@ -116,17 +182,6 @@ pub fn carry(frame: &mut [u8], results: &mut [u8], ops: &[u8], errors: &[u8], d:
         × Powers d n (now (frame .exit))
         × (length (now (frame .exit)) ≡ length (now (frame .entry))) ⌝ }
 {
-    let m = modular::reciprocal(d);
-    let count = ops.len() / 4;
-    let mut at = Position {
-        entry: 0,
-        measurements: 0,
-    };
-    let mut k = 0;
-    while k < count {
-        at = advance(frame, results, ops, errors, k, at, d, m, n);
-        k += 1;
-    }
-    let from = at.entry;
-    apply_errors(frame, errors, from, k, d, n);
+    let mut shifts = [0u8; 4096];
+    carry_in(frame, results, &mut shifts, ops, errors, d, n);
 }

@@ -120,7 +120,7 @@ fn multiplier_powers(v: &mut [u8], q: usize, u: u8, d: u8, m: u16, n: usize)
     v[n + q] = modular::mul(d, m, b, w);
 }
 
-// The gate on a frame. A measurement leaves it.
+// The gate on a frame. Measurement, reset and correction are no gates, and leave it.
 pub fn gate_frame(frame: &mut [u8], operation: Operation, d: u8, m: u16, n: usize)
     requires { ⌜ (listed d ≡ true)
         × (allowed d n operation ≡ true)
@@ -137,6 +137,8 @@ pub fn gate_frame(frame: &mut [u8], operation: Operation, d: u8, m: u16, n: usiz
         Operation::Swap { c, t } => swap_powers(frame, c, t, n),
         Operation::Multiplier { q, u } => multiplier_powers(frame, q, u, d, m, n),
         Operation::Measure { q: _ } => {}
+        Operation::Reset { q: _ } => {}
+        Operation::Correct { t: _, m: _ } => {}
     }
 }
 

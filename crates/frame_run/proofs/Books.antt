@@ -24,24 +24,24 @@ room-of n measurements lent e =
     let c = both (leb (2 * n) (length (lent .shifts))) (leb (2 * n) (length (lent .frame))) (b .1) in
     (leb-true _ _ (a .0), record { results-room = leb-true _ _ (b .0); shifts-room = leb-true _ _ (c .0); frame-room = leb-true _ _ (c .1) })
 
-module _ (s : List ℕ) {d n choices : ℕ} (g : Handed s d n choices) (lent : Buffers) where
+module _ (s : List ℕ) {d n measurements : ℕ} (g : Handed s d n measurements) (lent : Buffers) where
   -- 8
-  pub short-book : {b : Bool} → b ≡ frameBuffersFit n choices lent → not b ≡ true → frameRefused 8 0 lent ≡ frameBook s lent
+  pub short-book : {b : Bool} → b ≡ frameBuffersFit n measurements lent → not b ≡ true → frameRefused 8 0 lent ≡ frameBook s lent
   unfolding frameBook frameByAnswer
-  short-book {b} r h = rw (g .reads, g .measurements, sym r ∙ not-true b h)
+  short-book {b} r h = rw (g .reads, g .counted, sym r ∙ not-true b h)
 
   -- not 8
-  module _ {b : Bool} (r : b ≡ frameBuffersFit n choices lent) (h : not b ≡ false) where
-    fitting : frameBuffersFit n choices lent ≡ true
+  module _ {b : Bool} (r : b ≡ frameBuffersFit n measurements lent) (h : not b ≡ false) where
+    fitting : frameBuffersFit n measurements lent ≡ true
     fitting = sym r ∙ not-false b h
 
-    pub rooms : (tableauBytes n ≤ length (lent .tableau)) × Room n choices (lent .results) (lent .shifts) (lent .frame)
-    rooms = room-of n choices lent fitting
+    pub rooms : (tableauBytes n ≤ length (lent .tableau)) × Room n measurements (lent .results) (lent .shifts) (lent .frame)
+    rooms = room-of n measurements lent fitting
 
     -- 9
     pub invalid-book : {v : Bool} → v ≡ validFor d n (lent .tableau) → not v ≡ true → frameRefused 9 0 lent ≡ frameBook s lent
     unfolding frameBook frameByAnswer
-    invalid-book {v} e k = rw (g .reads, g .measurements, fitting, sym e ∙ not-true v k)
+    invalid-book {v} e k = rw (g .reads, g .counted, fitting, sym e ∙ not-true v k)
 
     -- not 9
     module _ {v : Bool} (e : v ≡ validFor d n (lent .tableau)) (k : not v ≡ false) where
@@ -55,4 +55,4 @@ module _ (s : List ℕ) {d n choices : ℕ} (g : Handed s d n choices) (lent : B
           → left ≡ frameBodies d n (partOf s 4) (partOf s 10) (partOf s 16) lent
           → left ≡ frameBook s lent
       unfolding frameBook frameByAnswer
-      run-book l = rw (g .reads, g .measurements, fitting, tested, g .second, g .third, ← g .measurements, g .first) l
+      run-book l = rw (g .reads, g .counted, fitting, tested, g .second, g .third, ← g .counted, g .first) l

@@ -11,7 +11,7 @@ use Rattle.validity.specs.Validity.{rowValid, valid}
 use Rattle.saved_tableau.specs.Saved.{selfValid, validFor}
 use Rattle.circuit.specs.Circuit.{measured}
 use Rattle.book_entries.specs.Entry.{decoded}
-use Rattle.book_body.specs.Body.{badOperation, measurements, badError, badChoice, readBodies}
+use Rattle.book_body.specs.Body.{badOperation, measurements, choiceTakers, badError, badChoice, readBodies}
 use Rattle.book.specs.Book.{headerFits, entryFits, badContents, readBook, bodyOf}
 use Rattle.book.specs.Decoded.{operationsOf}
 use Rattle.frame_run.specs.FrameBook.{Buffers, frameBuffersFit, frameByAnswer, frameBook}
@@ -39,5 +39,5 @@ refusals :
     (frameBook book (lent invalid (7 ∷ [])) ≡ record { number = 8; place = 0; verdict = 0; left = lent invalid (7 ∷ []) })
     × (frameBook book (lent invalid (7 ∷ 7 ∷ [])) ≡ record { number = 9; place = 0; verdict = 0; left = lent invalid (7 ∷ 7 ∷ []) })
     × (frameBook book (lent of-five (7 ∷ 7 ∷ [])) ≡ record { number = 9; place = 0; verdict = 0; left = lent of-five (7 ∷ 7 ∷ []) })
-unfolding listed all firstNot tab dot pairing part rowValid valid selfValid validFor measured decoded badOperation measurements badError badChoice readBodies headerFits entryFits badContents readBook bodyOf operationsOf frameBuffersFit frameByAnswer frameBook
+unfolding listed all firstNot tab dot pairing part rowValid valid selfValid validFor measured decoded badOperation measurements choiceTakers badError badChoice readBodies headerFits entryFits badContents readBook bodyOf operationsOf frameBuffersFit frameByAnswer frameBook
 refusals = (refl, refl, refl)

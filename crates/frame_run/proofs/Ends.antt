@@ -2,7 +2,7 @@
 -- Assumes nothing.
 use mathlib.Core.Path.{_≡_}
 use mathlib.Core.List.{List, [], _++_}
-use Prim.Native.Nat.{ℕ, _-_, _*_, _≤_}
+use Prim.Native.Nat.{ℕ, _-_, _*_, _<_, _≤_}
 use lib.ListN.{length, drop}
 use borrow.Rule.Slice.PartMut.{putMid}
 use Rattle.row.specs.Row.{tab}
@@ -20,12 +20,12 @@ use Rattle.frame_run.specs.FrameBook.{buffersOf, endOf, frameLeft, frame
 
 module _ (d n : ℕ) (ops : List Operation) (errors : List WeylError) (choices : List ℕ) where
   module _ (st : State) (shifts frame : List ℕ) where
-    pub run-ends : 2 * measured ops (length ops) ≤ length (st .results)
+    pub run-ends : 0 < d → 2 * measured ops (length ops) ≤ length (st .results)
         → {verdict : ℕ} {t results F results' carried t' shifts' frame' : List ℕ}
         → record { rows = t; results = results } ≡ directRun d n ops [] choices st
         → F ≡ noFrame n
         → carried ≡ finalFrame d n ops errors F
-        → results' ≡ withShifts d (resultShifts d n ops errors 0 F (length ops)) (measured ops (length ops)) results
+        → results' ≡ withShifts d (resultShifts d n ops errors F) (measured ops (length ops)) results
         → t' ≡ shiftRows d n carried t
         → shifts' ≡ tab (shiftAt d n carried t) (2 * n) ++ drop (2 * n) shifts
         → frame' ≡ carried ++ drop (2 * n) frame
@@ -33,8 +33,8 @@ module _ (d n : ℕ) (ops : List Operation) (errors : List WeylError) (choices :
         → _≡_ {A = FrameEnd} (record { rows = t'; results = results'; shifts = shifts'; frame = frame'; verdict = verdict })
         (frameRun d n ops errors choices st shifts frame)
     unfolding frameRun frameLeaves
-    run-ends room clean none f r a b c v =
-        rw (frame-is-clean d n ops errors choices (noFrame n) st shifts frame room, ← clean, ← none, ← f, a, b, c, v, r)
+    run-ends low room clean none f r a b c v =
+        rw (frame-is-clean d n ops errors choices (noFrame n) st shifts frame low room, ← clean, ← none, ← f, a, b, c, v, r)
 
 -- the rows come back behind the same two bytes
 pub tableau-ends : {answer : FrameAnswer} {measurements : ℕ} (t : List ℕ) {rows results shifts frame : List ℕ} {end : FrameEnd}

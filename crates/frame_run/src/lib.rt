@@ -44,7 +44,7 @@ fn run_in(
     n: usize,
 ) -> FrameAnswer
     requires { ⌜ Bodies d n (now ops) (now errors) (now choices)
-        × Room n (length (now choices)) (now results) (now shifts) (now out)
+        × Room n (measurementCount (operationsOf d n (now ops))) (now results) (now shifts) (now out)
         × (now frame ≡ noFrame n)
         × Valid d n (now rows) ⌝ }
     ensures { λ r. ⌜ (endOf r (now (rows .exit)) (now (results .exit)) (now (shifts .exit)) (now (out .exit))
@@ -76,7 +76,7 @@ fn run(
     n: usize,
 ) -> FrameAnswer
     requires { ⌜ Bodies d n (now ops) (now errors) (now choices)
-        × Room n (length (now choices)) (now results) (now shifts) (now out)
+        × Room n (measurementCount (operationsOf d n (now ops))) (now results) (now shifts) (now out)
         × (tableauBytes n ≤ length (now t))
         × Valid d n (rowsIn (now t)) ⌝ }
     ensures { λ r. ⌜ frameLeft r (buffersOf (now (t .exit)) (now (results .exit)) (now (shifts .exit)) (now (out .exit)))
@@ -137,7 +137,7 @@ pub fn frame_run(
     };
     let d = numbers.d;
     let n = numbers.n;
-    if !buffers_fit(t, results, shifts, frame, numbers.choices, n) {
+    if !buffers_fit(t, results, shifts, frame, numbers.measurements, n) {
         return refused(8, 0);
     }
     if !tableau_calls::is_valid_for(t, d, n) {

@@ -250,5 +250,7 @@ pub fn gate_rows(t: &mut [u8], operation: Operation, tables: &[u8], d: u8, n: us
             gate_all(t, 5, q, 0, u, f, tables, d, n)
         }
         Operation::Measure { q: _ } => {}
+        Operation::Reset { q: _ } => {}
+        Operation::Correct { t: _, m: _ } => {}
     }
 }

@@ -34,11 +34,11 @@ module _ (d n : ℕ) (ops : List Operation) (clean : State) (errors : ℕ → Li
   shot = shotAt (1 + 2 * total) out' l
 
   abbrev results : ℕ → ℕ
-  results = shiftedByteAt d (clean .results) (resultShifts d n ops (errors l) 0 (noFrame n) (length ops))
+  results = shiftedByteAt d (clean .results) (resultShifts d n ops (errors l) (noFrame n))
 
   byte : (b : ℕ) → b < 2 * total → getD shot (suc b) 0 ≡ results b
   byte =
-      shifted-byte d (resultShifts d n ops (errors l) 0 (noFrame n) (length ops)) (clean .results) total (λ b. getD shot (suc b) 0)
+      shifted-byte d (resultShifts d n ops (errors l) (noFrame n)) (clean .results) total (λ b. getD shot (suc b) 0)
       (λ j g. let p : suc (2 * j) ≡ 1 + 2 * j = omega arith in rw p (h .outcomes l j low g))
       (λ j g. let p : suc (2 * j + 1) ≡ 2 + 2 * j = omega arith in rw p (h .marks-too l j low g))
 
@@ -56,10 +56,10 @@ module _ (d n : ℕ) (ops : List Operation) (clean : State) (errors : ℕ → Li
 
 -- the lanes after a block, and their verdicts
 module _ (d n : ℕ) (ops : List Operation) (clean : State) (errors : ℕ → List WeylError) (used : ℕ) (v v' : List ℕ)
-    (none : NoFrames n v) (few : used ≤ 256) (c : CarriedAll d n ops errors v v') where
+    (none : NoFrames n v) (few : used ≤ 256) (c : CarriedAll d n ops errors used v v') where
   lane-verdict : (l : ℕ) → l < used → verdictIn d n v' (clean .rows) l ≡ verdictBy d n ops clean errors l
   lane-verdict l g =
-      ap (λ (F : List ℕ). verdictOf d n F (clean .rows)) (c .each l (omega arith) ∙ ap (finalFrame d n ops (errors l)) (none l (omega arith)))
+      ap (λ (F : List ℕ). verdictOf d n F (clean .rows)) (c .each l g ∙ ap (finalFrame d n ops (errors l)) (none l (omega arith)))
 
   shifted-lanes : (k : ℕ) → k ≤ used → shiftedLanes d n v' (clean .rows) k ≡ shiftedShots d n ops clean errors k
   unfolding shiftedLanes shiftedShots

@@ -3,9 +3,9 @@
 ghost use Prim.Native.Nat.{_<_};
 ghost use Rattle.modular.specs.Modular.{Reciprocal};
 ghost use Rattle.operation.specs.declared.Operation.the-variants.{Fourier, PhaseGate, Sum, Cz, Swap, Multiplier};
-ghost use Rattle.operation.specs.Gate.{gatePowers};
+ghost use Rattle.operation.specs.Gate.{withX, gatePowers};
 ghost use Rattle.operation.specs.Error.{errorFrame};
-ghost use Rattle.lanes.specs.Lanes.{Lanes, LaneFrame, InverseOf, Each, Alone};
+ghost use Rattle.lanes.specs.Lanes.{lessX, Lanes, LaneFrame, InverseOf, Each, Alone};
 use operation::WeylError;
 
 fn fourier_lane(v: &mut [u8], q: usize, k: u8, l: usize, d: u8, n: usize)
@@ -173,6 +173,37 @@ pub fn multiplier_lanes(v: &mut [u8], q: usize, u: u8, w: u8, m: u16, d: u8, n: 
     for l in 0..256 {
         multiplier_lane(v, q, u, w, m, l, d, n);
     }
+}
+
+// A reset of qudit q: the frame in lane l loses its X power there.
+fn reset_lane(v: &mut [u8], q: usize, l: usize, d: u8, n: usize)
+    requires { ⌜ LaneFrame d n l (now v)
+        × (q < n) ⌝ }
+    ensures { λ _. ⌜ Alone (withX q 0) n l (now (v .entry)) (now (v .exit)) ⌝ }
+{
+    let x = 256 * q + l;
+    v[x] = 0;
+}
+
+pub fn reset_lanes(v: &mut [u8], q: usize, d: u8, n: usize)
+    requires { ⌜ Lanes d n (now v)
+        × (q < n) ⌝ }
+    ensures { λ _. ⌜ Each (withX q 0) n (now (v .entry)) (now (v .exit)) ⌝ }
+{
+    for l in 0..256 {
+        reset_lane(v, q, l, d, n);
+    }
+}
+
+// A correction of qudit q: its X power in lane l loses the shift s.
+pub fn correct_lane(v: &mut [u8], q: usize, s: u8, l: usize, d: u8, n: usize)
+    requires { ⌜ LaneFrame d n l (now v)
+        × (q < n)
+        × (s < d) ⌝ }
+    ensures { λ _. ⌜ Alone (lessX d q s) n l (now (v .entry)) (now (v .exit)) ⌝ }
+{
+    let x = 256 * q + l;
+    v[x] = modular::subtract(d, v[x], s);
 }
 
 // The error on lane l.

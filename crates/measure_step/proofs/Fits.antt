@@ -4,9 +4,12 @@
 use mathlib.Core.Path.{_≡_, refl, subst}
 use mathlib.Core.List.{List}
 use Prim.Native.Nat.{ℕ, _<_}
+use native.Mathlib.Omega.{arith}
 use Rattle.modular.specs.Dimension.{Dimension}
 use Rattle.modular.proofs.Residue.{neg-less}
 use Rattle.row.specs.Row.{phaseOf}
+use Rattle.operation.specs.Error.{errorRows, minusX}
+use Rattle.operation.proofs.Error.{minus-allowed}
 use Rattle.search.specs.declared.Place.{Place}
 use Rattle.search.specs.declared.Place.the-variants.{At, Nowhere}
 use Rattle.search.proofs.Search.{found-fails}
@@ -15,6 +18,7 @@ use Rattle.measurement.specs.declared.Look.{Look}
 use Rattle.measurement.specs.declared.Look.the-variants.{Free, Certain}
 use Rattle.measurement.specs.Look.{commutes, pivotOf, weighted, lookBy, look}
 use Rattle.measurement.specs.Collapse.{collapse}
+use Rattle.validity_laws.proofs.Keeping.{error-keeps-valid}
 use Rattle.measurement_laws.proofs.Free.{collapse-keeps-valid}
 
 abbrev pub LookFits : ℕ → ℕ → Look → Type 0
@@ -34,3 +38,8 @@ pub collapse-valid : {d n q k m : ℕ} {t' : List ℕ} → Dimension d → (t : 
     → t' ≡ collapse d n q k m t
     → Valid d n t'
 collapse-valid {d} {n} {q} {k} {m} {t'} dim t ok lq lm seen e = rw e (collapse-keeps-valid d n dim t ok q k m lq lm seen)
+
+-- and so does X to the minus any outcome
+pub minus-valid : {d n q : ℕ} (r : ℕ) {t' : List ℕ} → Dimension d → (t : List ℕ) → Valid d n t → q < n → t' ≡ errorRows d n (minusX d q r) t → Valid d n t'
+minus-valid {d} {n} {q} r dim t ok lq e =
+    rw e (error-keeps-valid d n dim (minusX d q r) (minus-allowed d n q r (omega (arith, dim .low)) lq) t ok)

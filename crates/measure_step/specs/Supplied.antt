@@ -2,7 +2,7 @@
 use mathlib.Core.Path.{_≡_}
 use mathlib.Core.Bool.{true}
 use mathlib.Core.List.{List}
-use Prim.Native.Nat.{ℕ, _+_, _*_, _<_, _≤_}
+use Prim.Native.Nat.{ℕ, _+_, _<_, _≤_}
 use lib.ListN.{length, getD}
 use Rattle.modular.specs.Dimension.{listed}
 use Rattle.tables.specs.Tables.{Tables}
@@ -13,8 +13,7 @@ pub record RunTables (d n : ℕ) (tables : List ℕ) : Type 0 where
   pub qudits : n ≤ 64
   pub made : Tables d tables
 
--- For `count` measurements, from measurement j on: a choice below d each, and two bytes of results each.
-pub record Supplied (d j count : ℕ) (choices results : List ℕ) : Type 0 where
-  pub enough : j + count ≤ length choices
-  pub below : (i : ℕ) → j ≤ i → i < j + count → getD choices i 0 < d
-  pub room : 2 * (j + count) ≤ length results
+-- For `count` operations that take one, from choice c on: a choice below d each.
+pub record Supplied (d c count : ℕ) (choices : List ℕ) : Type 0 where
+  pub enough : c + count ≤ length choices
+  pub below : (i : ℕ) → c ≤ i → i < c + count → getD choices i 0 < d

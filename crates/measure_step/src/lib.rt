@@ -1,11 +1,11 @@
-// One measurement on the rows.
+// One measurement, and one reset, on the rows.
 ghost use mathlib.Core.Path.{_≡_};
 ghost use Prim.Native.Nat.{_+_, _*_, _<_};
 ghost use lib.ListN.{length};
 ghost use Rattle.validity.specs.Validity.{Valid};
 ghost use Rattle.measurement.specs.Look.{look};
 ghost use Rattle.runs.specs.Run.{withResult};
-ghost use Rattle.runs.specs.Direct.{stateOf, directLook};
+ghost use Rattle.runs.specs.Direct.{stateOf, directLook, resetRows};
 ghost use Rattle.measure_step.specs.Supplied.{RunTables, Supplied};
 use measurement::Look;
 
@@ -18,11 +18,12 @@ fn write_result(results: &mut [u8], j: usize, outcome: u8, mark: u8)
     results[2 * j + 1] = mark;
 }
 
-// Measurement j, of qudit q: it takes choice j, whether it is used or not.
+// Measurement j, of qudit q: it takes choice c, whether it is used or not.
 pub fn measure(
     t: &mut [u8],
     results: &mut [u8],
     choices: &[u8],
+    c: usize,
     j: usize,
     q: usize,
     tables: &[u8],
@@ -31,21 +32,45 @@ pub fn measure(
 )
     requires { ⌜ RunTables d n (now tables)
         × (q < n)
-        × Supplied d j 1 (now choices) (now results)
+        × Supplied d c 1 (now choices)
+        × (2 * j + 1 < length (now results))
         × Valid d n (now t) ⌝ }
     ensures { λ _. ⌜ (stateOf (now (t .exit)) (now (results .exit))
-        ≡ directLook d n (now (choices .entry)) j q (stateOf (now (t .entry)) (now (results .entry))) (look d n (now (t .entry)) q))
+        ≡ directLook d n (now (choices .entry)) c j q (stateOf (now (t .entry)) (now (results .entry))) (look d n (now (t .entry)) q))
         × Valid d n (now (t .exit)) ⌝ }
 {
     let seen = measurement_look::look_at(t, q, d, n);
     match seen {
         Look::Free { pivot } => {
-            let choice = choices[j];
+            let choice = choices[c];
             measurement_collapse::collapse(t, pivot, q, choice, tables, d, n);
             write_result(results, j, choice, 1);
         }
         Look::Certain { outcome } => {
             write_result(results, j, outcome, 0);
+        }
+    }
+}
+
+// A reset of qudit q: it is measured, taking choice c but giving no result, and then X to the minus outcome is applied.
+pub fn reset(t: &mut [u8], choices: &[u8], c: usize, q: usize, tables: &[u8], d: u8, n: usize)
+    requires { ⌜ RunTables d n (now tables)
+        × (q < n)
+        × Supplied d c 1 (now choices)
+        × Valid d n (now t) ⌝ }
+    ensures { λ _. ⌜ (now (t .exit)
+        ≡ resetRows d n (now (choices .entry)) c q (now (t .entry)) (look d n (now (t .entry)) q))
+        × Valid d n (now (t .exit)) ⌝ }
+{
+    let seen = measurement_look::look_at(t, q, d, n);
+    match seen {
+        Look::Free { pivot } => {
+            let choice = choices[c];
+            measurement_collapse::collapse(t, pivot, q, choice, tables, d, n);
+            error::minus_x_rows(t, q, choice, tables, d, n);
+        }
+        Look::Certain { outcome } => {
+            error::minus_x_rows(t, q, outcome, tables, d, n);
         }
     }
 }

@@ -1,7 +1,7 @@
--- The bytes of allowed operations, read again: the reader finds no bad one, and the same operations; among gates no code of a measurement.
+-- The bytes of allowed operations, read again: the reader finds no bad one, and the same operations; among gates no code that takes a choice.
 -- Assumes nothing.
 use mathlib.Core.Path.{_≡_, refl, sym, ap, _∙_}
-use mathlib.Core.Bool.{true, false}
+use mathlib.Core.Bool.{true, false, _||_}
 use mathlib.Core.List.{List, [], _∷_, _++_, append-assoc, append-nil}
 use Prim.Native.Nat.{ℕ, zero, suc, _+_, _*_, _/_, _<_, _≤_}
 use native.Mathlib.Omega.{arith}
@@ -11,13 +11,13 @@ use lib.Seq.{getD-append-add, ext-getD}
 use Rattle.search.specs.declared.Place.the-variants.{Nowhere}
 use Rattle.search.proofs.Search.{none-fails}
 use Rattle.operation.specs.declared.Operation.{Operation}
-use Rattle.operation.specs.declared.Operation.the-variants.{Fourier, PhaseGate, Sum, Cz, Swap, Multiplier, Measure}
-use Rattle.operation.specs.Operation.{allowed}
+use Rattle.operation.specs.declared.Operation.the-variants.{Fourier, PhaseGate, Sum, Cz, Swap, Multiplier, Measure, Reset, Correct}
+use Rattle.operation.specs.Operation.{allowed, named}
 use Rattle.circuit.specs.Circuit.{opAt, gate, kind}
 use Rattle.book_entries.specs.declared.Decoded.the-variants.{Good}
 use Rattle.book_entries.specs.Entry.{bytesOf, operationAt}
 use Rattle.book_entries.proofs.Decoding.{decoded-exactly}
-use Rattle.book_body.specs.Body.{isGood, goodOperation, badOperation, measurements}
+use Rattle.book_body.specs.Body.{isGood, goodOperation, badOperation, measurements, choiceTakers}
 use Rattle.book.specs.Decoded.{operationIn, operationsOf}
 use Rattle.book.proofs.Lists.{op-count, op-at}
 use Rattle.mirror_book.specs.MirrorBook.{bytesOfAll}
@@ -31,6 +31,8 @@ four (Cz c t k) = refl
 four (Swap c t) = refl
 four (Multiplier q u) = refl
 four (Measure q) = refl
+four (Reset q) = refl
+four (Correct t m) = refl
 
 listed-four : (xs : List ℕ) → length xs ≡ 4 → getD xs 0 0 ∷ getD xs 1 0 ∷ getD xs 2 0 ∷ getD xs 3 0 ∷ [] ≡ xs
 listed-four [] e = absurd (omega arith)
@@ -69,6 +71,18 @@ code-at ops k l =
 pub entry-count : (ops : List Operation) → length (bytesOfAll ops) / 4 ≡ length ops
 entry-count ops = omega (arith, body-length ops)
 
+-- a gate names no measurement
+pub gate-names : (earlier : ℕ) (op : Operation) → kind op ≡ gate → named earlier op ≡ true
+gate-names earlier (Fourier q k) e = refl
+gate-names earlier (PhaseGate q k) e = refl
+gate-names earlier (Sum c t k) e = refl
+gate-names earlier (Cz c t k) e = refl
+gate-names earlier (Swap c t) e = refl
+gate-names earlier (Multiplier q u) e = refl
+gate-names earlier (Measure q) e = refl
+gate-names earlier (Reset q) e = refl
+gate-names earlier (Correct t m) e = cc
+
 module _ (d n : ℕ) (ops : List Operation) (good : (k : ℕ) → k < length ops → allowed d n (opAt ops k) ≡ true) where
   entry-read : (k : ℕ) → k < length ops → operationAt d n (bytesOfAll ops) k ≡ Good (opAt ops k)
   entry-read k l =
@@ -82,13 +96,15 @@ module _ (d n : ℕ) (ops : List Operation) (good : (k : ℕ) → k < length ops
       let i : k < length ops = omega (arith, op-count d n (bytesOfAll ops), entry-count ops) in
       op-at d n (bytesOfAll ops) k (rw (entry-count ops) i) ∙ ap operationIn (entry-read k i))
 
-  pub none-bad : badOperation d n (bytesOfAll ops) ≡ Nowhere
+  pub none-bad : ((k : ℕ) → k < length ops → kind (opAt ops k) ≡ gate) → badOperation d n (bytesOfAll ops) ≡ Nowhere
   unfolding badOperation
-  none-bad =
+  none-bad gates =
       none-fails (goodOperation d n (bytesOfAll ops)) (length (bytesOfAll ops) / 4)
-      (λ k l. ap isGood (entry-read k (rw (entry-count ops) at l)))
+      (λ k l.
+      let i : k < length ops = rw (entry-count ops) at l in
+      ap (isGood (measurements (bytesOfAll ops) k)) (entry-read k i) ∙ gate-names (measurements (bytesOfAll ops) k) (opAt ops k) (gates k i))
 
-gate-code : (op : Operation) → kind op ≡ gate → eqb (getD (bytesOf op) 0 0) 6 ≡ false
+gate-code : (op : Operation) → kind op ≡ gate → eqb (getD (bytesOf op) 0 0) 6 || eqb (getD (bytesOf op) 0 0) 7 ≡ false
 unfolding bytesOf
 gate-code (Fourier q k) e = refl
 gate-code (PhaseGate q k) e = refl
@@ -97,9 +113,11 @@ gate-code (Cz c t k) e = refl
 gate-code (Swap c t) e = refl
 gate-code (Multiplier q u) e = refl
 gate-code (Measure q) e = cc
+gate-code (Reset q) e = cc
+gate-code (Correct t m) e = cc
 
 pub none-counted : (ops : List Operation) → ((k : ℕ) → k < length ops → kind (opAt ops k) ≡ gate) → (m : ℕ) → m ≤ length ops
-    → measurements (bytesOfAll ops) m ≡ 0
-unfolding measurements
+    → choiceTakers (bytesOfAll ops) m ≡ 0
+unfolding choiceTakers
 none-counted ops g zero l = refl
 none-counted ops g (suc m) l = rw (none-counted ops g m (omega arith), code-at ops m l, gate-code (opAt ops m) (g m l))

@@ -11,7 +11,7 @@ use Rattle.operation.specs.declared.Operation.{Operation}
 use Rattle.operation.specs.declared.Operation.the-variants.{Fourier, PhaseGate, Sum, Cz, Swap, Multiplier}
 use Rattle.operation.specs.Gate.{gatePowers, gatePhase, gateRow}
 use Rattle.book_entries.specs.Entry.{bytesOf, decoded, errorAt}
-use Rattle.book_body.specs.Body.{badOperation, measurements, goodError, badError, badChoice, readBodies}
+use Rattle.book_body.specs.Body.{badOperation, measurements, choiceTakers, goodError, badError, badChoice, readBodies}
 use Rattle.book.specs.Book.{headerFits, entryFits, badContents, readBook, bodyOf}
 use Rattle.book.specs.Decoded.{operationsOf}
 use Rattle.written_book.specs.Written.{headOf, bookOf}
@@ -113,7 +113,7 @@ pub mirror-written :
     × (mirrorBook (bookOf 7 2 gates errors []) (sevens 46) ≡ record { number = 0; place = 46; out = mirror })
     × Refuses 7 2 gates errors [] 45 8 0
     × (mirrorBook (bookOf 3 5 qutrit-gates [] []) (sevens 38) ≡ record { number = 0; place = 38; out = qutrit-mirror })
-unfolding listed powerOf inverse firstNot tab bytesOf decoded errorAt measurements badOperation goodError badError badChoice readBodies headerFits entryFits badContents readBook bodyOf operationsOf headOf bookOf mirrored bytesOfAll mirrorByAnswer mirrorBook
+unfolding listed powerOf inverse firstNot tab bytesOf decoded errorAt measurements choiceTakers badOperation goodError badError badChoice readBodies headerFits entryFits badContents readBook bodyOf operationsOf headOf bookOf mirrored bytesOfAll mirrorByAnswer mirrorBook
 mirror-written = (refl, refl, refl, refl)
 
 -- Fourier, then both qudits are measured; Fourier, then qudit 4 is
@@ -123,12 +123,17 @@ measuring = 0 ∷ 0 ∷ 0 ∷ 0 ∷ 6 ∷ 0 ∷ 0 ∷ 0 ∷ 6 ∷ 1 ∷ 0 ∷ 0 
 abbrev measured-last : List ℕ
 measured-last = 0 ∷ 0 ∷ 0 ∷ 0 ∷ 6 ∷ 4 ∷ 0 ∷ 0 ∷ []
 
--- 12 with the operation index of the first measurement, before 8; 6 and 7 before 12
+-- Fourier, then qudit 0 is reset
+abbrev resetting : List ℕ
+resetting = 0 ∷ 0 ∷ 0 ∷ 0 ∷ 7 ∷ 0 ∷ 0 ∷ 0 ∷ []
+
+-- 12 with the operation index of the first measurement or reset, before 8; 6 and 7 before 12
 pub measurement-refused :
     Refuses 7 2 measuring errors (0 ∷ 0 ∷ []) 34 12 1
     × Refuses 7 2 measuring errors (0 ∷ 0 ∷ []) 33 12 1
     × Refuses 7 2 measuring (4 ∷ 0 ∷ 0 ∷ 0 ∷ 0 ∷ []) (0 ∷ 0 ∷ []) 34 6 0
     × Refuses 7 2 measuring errors (0 ∷ []) 34 7 1
     × Refuses 3 5 measured-last [] (2 ∷ []) 30 12 1
-unfolding listed firstNot tab decoded errorAt measurements badOperation goodError badError badChoice readBodies headerFits entryFits badContents readBook bodyOf operationsOf headOf bookOf mirrorByAnswer mirrorBook
-measurement-refused = (refl, refl, refl, refl, refl)
+    × Refuses 3 5 resetting [] (2 ∷ []) 30 12 1
+unfolding listed firstNot tab decoded errorAt measurements choiceTakers badOperation goodError badError badChoice readBodies headerFits entryFits badContents readBook bodyOf operationsOf headOf bookOf mirrorByAnswer mirrorBook
+measurement-refused = (refl, refl, refl, refl, refl, refl)

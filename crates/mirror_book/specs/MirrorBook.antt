@@ -8,7 +8,7 @@ use Rattle.search.specs.declared.Place.{Place}
 use Rattle.search.specs.declared.Place.the-variants.{At, Nowhere}
 use Rattle.search.specs.Search.{unless, firstNot}
 use Rattle.operation.specs.declared.Operation.{Operation}
-use Rattle.circuit.specs.Circuit.{opAt, Kind, gate, measures, kind}
+use Rattle.circuit.specs.Circuit.{opAt, Kind, gate, measures, resets, corrects, kind}
 use Rattle.book_entries.specs.Entry.{bytesOf}
 use Rattle.book_body.specs.Body.{ReaderAnswer, refused, accepted}
 use Rattle.book.specs.Book.{readBook}
@@ -30,10 +30,12 @@ mirrorOf d n s = bookOf d n (bytesOfAll (mirrored d (opsIn s d n))) [] []
 abbrev pub mirrorBytes : ℕ → ℕ
 mirrorBytes operations = 22 + 4 * operations
 
--- a gate, and not a measurement
+-- a gate, and not a measurement, a reset or a correction
 abbrev pub isGate : Kind → Bool
 isGate gate = true
 isGate (measures q) = false
+isGate (resets q) = false
+isGate (corrects t m) = false
 
 abbrev pub gateAt : List Operation → ℕ → Bool
 gateAt ops k = isGate (kind (opAt ops k))
@@ -42,7 +44,7 @@ gateAt ops k = isGate (kind (opAt ops k))
 abbrev pub firstMeasurement : List Operation → Place
 firstMeasurement ops = firstNot (gateAt ops) (length ops)
 
--- 12 when the book has a measurement, with the operation index of the first
+-- 12 when the book has a measurement, with the operation index of the first; for codes 7 and 8 as well
 abbrev pub refuse12 : Place → List ℕ → WriteLeft → WriteLeft
 refuse12 (At index) out rest = record { number = 12; place = index; out = out }
 refuse12 Nowhere out rest = rest

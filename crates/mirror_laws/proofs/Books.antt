@@ -88,7 +88,7 @@ module _ (s : List ℕ) {d n operations errors choices : ℕ} (e : readBook s �
         means .dimension-listed,
         means .qudits-sized,
         whole,
-        none-bad d n (mirrored d ops) good,
+        none-bad d n (mirrored d ops) good (mirrored-gates d ops (gates-of ops none)),
         o,
         none-counted (mirrored d ops) (mirrored-gates d ops (gates-of ops none)) operations m,
       )

@@ -13,14 +13,14 @@ use Rattle.search.specs.declared.Place.the-variants.{Nowhere}
 use Rattle.search.proofs.Search.{all-good}
 use Rattle.row.specs.Row.{tab}
 use Rattle.operation.specs.declared.Operation.{Operation}
-use Rattle.operation.specs.declared.Operation.the-variants.{Fourier, PhaseGate, Sum, Cz, Swap, Multiplier, Measure}
+use Rattle.operation.specs.declared.Operation.the-variants.{Fourier, PhaseGate, Sum, Cz, Swap, Multiplier, Measure, Reset, Correct}
 use Rattle.operation.specs.declared.WeylError.{WeylError}
 use Rattle.operation.specs.Operation.{allowed}
 use Rattle.operation.specs.Gate.{gateRows}
 use Rattle.validity.specs.Validity.{Valid}
 use Rattle.validity.proofs.Exactly.{valid-tableau}
 use Rattle.validity_laws.proofs.Keeping.{gate-keeps-valid}
-use Rattle.circuit.specs.Circuit.{opAt, Kind, gate, measures, kind, measured, Accepted}
+use Rattle.circuit.specs.Circuit.{opAt, Kind, gate, measures, resets, corrects, kind, measured, chosen, Accepted}
 use Rattle.runs.specs.Run.{stepsFrom}
 use Rattle.runs.specs.Direct.{stateOf, errorsOnRows, directKind, directErrors, directStep, directRun}
 use Rattle.runs.specs.Frame.{Frame, noFrame, shiftRows}
@@ -36,6 +36,8 @@ use Rattle.mirror_book.specs.Undoing.{undoing}
 use Rattle.mirror_book.specs.Mirrored.{mirrored}
 use Rattle.mirror_book.specs.MirrorBook.{isGate, gateAt, firstMeasurement}
 use Rattle.mirror_book.proofs.Mirrored.{mirrored-length, mirrored-at}
+use Rattle.mirror_book.proofs.Body.{gate-names}
+use Rattle.runs.proofs.Results.{measured-chosen}
 use Rattle.mirror_laws.specs.Lists.{ListsAccepted, rowsAfterBoth, ListsReturn, ListsCarry}
 use Rattle.mirror_laws.proofs.Undone.{undoing-allowed, rows-undone}
 
@@ -46,6 +48,8 @@ Gates ops = (k : ℕ) → k < length ops → kind (opAt ops k) ≡ gate
 is-gate : (x : Kind) → isGate x ≡ true → x ≡ gate
 is-gate gate e = refl
 is-gate (measures q) e = absurd (false≢true e)
+is-gate (resets q) e = absurd (false≢true e)
+is-gate (corrects t m) e = absurd (false≢true e)
 
 pub gates-of : (ops : List Operation) → firstMeasurement ops ≡ Nowhere → Gates ops
 gates-of ops none k l = is-gate (kind (opAt ops k)) (all-good (gateAt ops) (length ops) none k l)
@@ -55,6 +59,11 @@ unfolding measured
 none-measured ops g zero l = refl
 none-measured ops g (suc m) l = rw (none-measured ops g m (omega arith), g m l)
 
+pub none-chosen : (ops : List Operation) → Gates ops → (m : ℕ) → m ≤ length ops → chosen ops m ≡ 0
+unfolding chosen
+none-chosen ops g zero l = refl
+none-chosen ops g (suc m) l = rw (none-chosen ops g m (omega arith), g m l)
+
 undoing-kind : (d : ℕ) (op : Operation) → kind (undoing d op) ≡ kind op
 undoing-kind d (Fourier q k) = refl
 undoing-kind d (PhaseGate q k) = refl
@@ -63,6 +72,8 @@ undoing-kind d (Cz c t k) = refl
 undoing-kind d (Swap c t) = refl
 undoing-kind d (Multiplier q u) = refl
 undoing-kind d (Measure q) = refl
+undoing-kind d (Reset q) = refl
+undoing-kind d (Correct t m) = refl
 
 module _ (d : ℕ) (ops : List Operation) where
   pub mirrored-gates : Gates ops → Gates (mirrored d ops)
@@ -85,9 +96,10 @@ lists-accepted d n dim ops errors choices ac none =
     let g = mirrored-gates d ops (gates-of ops none) in
     record {
       operations = mirrored-allowed d ops n dim (ac .operations);
+      names = λ k l. gate-names (measured (mirrored d ops) k) (opAt (mirrored d ops) k) (g k l);
       errors-in-order = record { each = λ j l. absurd (omega arith); in-order = λ i j l k. absurd (omega arith) };
       places = λ j l. absurd (omega arith);
-      one-each = sym (none-measured (mirrored d ops) g (length (mirrored d ops)) (le-refl (length (mirrored d ops))));
+      one-each = sym (none-chosen (mirrored d ops) g (length (mirrored d ops)) (le-refl (length (mirrored d ops))));
       below = λ j l. absurd (omega arith);
     }
 
@@ -149,12 +161,12 @@ module _ (d n : ℕ) (dim : Dimension d) (ops : List Operation) (errors : List W
       → directRun d n ops errors choices (stateOf (shiftRows d n F t) results) .rows
       ≡ shiftRows d n (finalFrame d n ops errors F) (directRun d n ops [] choices (stateOf t results) .rows)
   shifted-run f t results ok =
-      rw (none-raised d n ops errors F choices none) at (direct-shifted d n dim ops errors choices F ac f t results ok)
+      rw (none-raised d n ops errors F choices none) at (direct-shifted d n dim ops errors choices F ac f t results ok (omega (arith, measured-chosen ops (length ops), ac .one-each, ap length none)))
 
 pub lists-carry : ListsCarry
 lists-carry d n dim ops errors choices ac none t results results' ok =
     let low : 0 < d = omega (arith, dim .low) in
-    let no-choices = empty choices (ac .one-each ∙ none-measured ops (gates-of ops none) (length ops) (le-refl (length ops))) in
+    let no-choices = empty choices (ac .one-each ∙ none-chosen ops (gates-of ops none) (length ops) (le-refl (length ops))) in
     let start = shifted-none d n (noFrame n) t (valid-tableau d n t ok) (λ s l. no-powers n s) in
     let there = rw start at (shifted-run d n dim ops errors choices ac no-choices (noFrame n) (no-frame d n low) t results ok) in
     let clean = without-errors ac in

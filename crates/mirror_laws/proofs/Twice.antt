@@ -12,7 +12,7 @@ use Rattle.congruence.proofs.Congruence.{Cong, cong-eq, cong-sym, cong-trans, c
 use Rattle.modular.specs.Dimension.{inverse, Dimension}
 use Rattle.modular.proofs.Listed.{dimension}
 use Rattle.operation.specs.declared.Operation.{Operation}
-use Rattle.operation.specs.declared.Operation.the-variants.{Fourier, PhaseGate, Sum, Cz, Swap, Multiplier, Measure}
+use Rattle.operation.specs.declared.Operation.the-variants.{Fourier, PhaseGate, Sum, Cz, Swap, Multiplier, Measure, Reset, Correct}
 use Rattle.operation.specs.Operation.{allowed}
 use Rattle.operation.proofs.Operands.{single-facts, pair-facts}
 use Rattle.circuit.specs.Circuit.{opAt}
@@ -30,7 +30,7 @@ use Rattle.mirror_book.proofs.Mirrored.{mirrored-length, mirrored-at}
 use Rattle.mirror_book.proofs.Body.{body-length, byte-at}
 use Rattle.mirror_laws.specs.Books.{MirrorTwice}
 use Rattle.mirror_laws.proofs.Undone.{inverse-positive, leaves-one}
-use Rattle.mirror_laws.proofs.Lists.{gates-of, none-measured}
+use Rattle.mirror_laws.proofs.Lists.{gates-of, none-chosen}
 use Rattle.mirror_laws.proofs.Books.{reads}
 
 -- the inverse of the inverse
@@ -65,6 +65,8 @@ undoing-twice d n dim (Cz c t k) h =
 undoing-twice d n dim (Swap c t) h = refl
 undoing-twice d n dim (Multiplier q u) h = let (_, low, high) = single-facts d n q u h in ap (Multiplier q) (inverse-twice dim u low high)
 undoing-twice d n dim (Measure q) h = refl
+undoing-twice d n dim (Reset q) h = refl
+undoing-twice d n dim (Correct t m) h = refl
 
 module _ (d n : ℕ) (dim : Dimension d) (ops : List Operation) (good : (k : ℕ) → k < length ops → allowed d n (opAt ops k) ≡ true) where
   mirrored-twice : mirrored d (mirrored d ops) ≡ ops
@@ -116,5 +118,5 @@ mirror-twice s d n operations errors choices e none =
     let dim = dimension d (m .dimension-listed) in
     let ops = opsIn s d n in
     let whole = whole-operations s e .0 in
-    let no-choices = empty (choicesIn s) (m .lists .one-each ∙ none-measured ops (gates-of ops none) (length ops) (le-refl (length ops))) in
+    let no-choices = empty (choicesIn s) (m .lists .one-each ∙ none-chosen ops (gates-of ops none) (length ops) (le-refl (length ops))) in
     rw (reads s e none, mirrored-twice d n dim ops (m .lists .operations), written-again d n (bodyOf s 1) whole (m .lists .operations), no-choices)

@@ -18,7 +18,7 @@ use Rattle.tableau.specs.Tableau.{every}
 use Rattle.tableau.proofs.Parts.{Keeps, tableau-row, on-one, on-none}
 use Rattle.row_laws.proofs.Reading.{bytes, reads-self, unique, reads-cong}
 use Rattle.operation.specs.declared.Operation.{Operation}
-use Rattle.operation.specs.declared.Operation.the-variants.{Fourier, PhaseGate, Sum, Cz, Swap, Multiplier, Measure}
+use Rattle.operation.specs.declared.Operation.the-variants.{Fourier, PhaseGate, Sum, Cz, Swap, Multiplier, Measure, Reset, Correct}
 use Rattle.operation.specs.Operation.{distinct, fromOne, allowed}
 use Rattle.operation.specs.Gate.{gateRow}
 use Rattle.operation.proofs.Gate.{gate-keeps}
@@ -218,6 +218,8 @@ undoing-allowed d n dim (Multiplier q u) h =
     both-true (ltb q n) (fromOne d (inverse d u)) (lt-ltb q n l)
     (rw (le-leb 1 (inverse d u) (inverse-positive dim u low high), lt-ltb (inverse d u) d (dim .small u)))
 undoing-allowed d n dim (Measure q) h = h
+undoing-allowed d n dim (Reset q) h = h
+undoing-allowed d n dim (Correct t m) h = h
 
 -- k of d applications and the others
 module _ (d n k : ℕ) (high : k < d) where
@@ -250,6 +252,8 @@ undoes (suc e) n dim (Multiplier q u) h =
     multiplier-undone (suc e) n q u (inverse (suc e) u) l refl (leaves-one dim u low high)
     (leaves-one dim (inverse (suc e) u) (inverse-positive dim u low high) (dim .small u))
 undoes (suc e) n dim (Measure q) h = record { powers = λ u s. cong-refl (suc e) (u s); phase = λ u. cong-refl (suc e) 0 }
+undoes (suc e) n dim (Reset q) h = record { powers = λ u s. cong-refl (suc e) (u s); phase = λ u. cong-refl (suc e) 0 }
+undoes (suc e) n dim (Correct t m) h = record { powers = λ u s. cong-refl (suc e) (u s); phase = λ u. cong-refl (suc e) 0 }
 
 pub row-undone : RowUndone
 row-undone d n dim op h v r =

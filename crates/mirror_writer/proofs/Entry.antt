@@ -1,7 +1,7 @@
 -- An entry and the one that undoes it differ in the last byte alone, and the tables have that byte.
 -- Assumes nothing.
 use mathlib.Core.Path.{_≡_, refl, ap, _∙_}
-use mathlib.Core.Bool.{true}
+use mathlib.Core.Bool.{true, false≢true}
 use mathlib.Core.List.{List, [], _∷_}
 use Prim.Native.Nat.{ℕ, zero, suc, _+_, _-_, _*_, _/_, _<_, _≤_}
 use native.Mathlib.Omega.{arith}
@@ -11,16 +11,17 @@ use Rattle.modular.specs.Dimension.{Dimension}
 use Rattle.modular.proofs.Listed.{dimension}
 use Rattle.tableau.specs.Tableau.{put}
 use Rattle.operation.specs.declared.Operation.{Operation}
-use Rattle.operation.specs.declared.Operation.the-variants.{Fourier, PhaseGate, Sum, Cz, Swap, Multiplier, Measure}
+use Rattle.operation.specs.declared.Operation.the-variants.{Fourier, PhaseGate, Sum, Cz, Swap, Multiplier, Measure, Reset, Correct}
 use Rattle.operation.specs.Operation.{allowed}
 use Rattle.operation.proofs.Operands.{single-facts, pair-facts}
-use Rattle.circuit.specs.Circuit.{opAt}
+use Rattle.circuit.specs.Circuit.{opAt, gate, kind}
 use Rattle.book_entries.specs.Entry.{timesIn, timesByte, bytesOf}
 use Rattle.book_entries.proofs.Decoding.{spelt-once}
 use Rattle.book.specs.Decoded.{operationsOf}
 use Rattle.book.proofs.Lists.{op-count}
 use Rattle.operation_codes.proofs.Codes.{own-bytes}
 use Rattle.mirror_book.specs.Undoing.{undoing}
+use Rattle.mirror_book.specs.MirrorBook.{isGate}
 use Rattle.mirror_book.specs.Mirrored.{mirrorAt}
 use Rattle.mirror_writer.specs.LastByte.{ordersOf, undoneByte}
 use Rattle.mirror_writer.specs.Ready.{Entries}
@@ -41,50 +42,55 @@ module _ (d n : ℕ) (dim : Dimension d) where
   byte : Operation → ℕ → ℕ
   byte op i = getD (bytesOf op) i 0
 
-  asked : (op : Operation) → allowed d n op ≡ true → Asked d (byte op 0) (byte op 3)
+  asked : (op : Operation) → allowed d n op ≡ true → kind op ≡ gate → Asked d (byte op 0) (byte op 3)
   unfolding byte bytesOf
-  asked (Fourier q k) h =
+  asked (Fourier q k) h g =
       let (_, low, high) = single-facts 4 n q k h in
       let (least, same) = power-byte k low in
       record { code = omega arith; small = omega arith; within = rw same (omega arith) }
-  asked (PhaseGate q k) h =
+  asked (PhaseGate q k) h g =
       let (_, low, high) = single-facts d n q k h in
       let (least, same) = power-byte k low in
       record { code = omega arith; small = omega (arith, dim .high); within = rw same (omega arith) }
-  asked (Sum c t k) h =
+  asked (Sum c t k) h g =
       let (_, _, _, low, high) = pair-facts d n c t k h in
       let (least, same) = power-byte k low in
       record { code = omega arith; small = omega (arith, dim .high); within = rw same (omega arith) }
-  asked (Cz c t k) h =
+  asked (Cz c t k) h g =
       let (_, _, _, low, high) = pair-facts d n c t k h in
       let (least, same) = power-byte k low in
       record { code = omega arith; small = omega (arith, dim .high); within = rw same (omega arith) }
-  asked (Swap c t) h = record { code = omega arith; small = omega arith; within = omega arith }
-  asked (Multiplier q u) h = let (_, low, high) = single-facts d n q u h in record { code = omega arith; small = omega (arith, dim .high); within = factor u low high }
+  asked (Swap c t) h g = record { code = omega arith; small = omega arith; within = omega arith }
+  asked (Multiplier q u) h g = let (_, low, high) = single-facts d n q u h in record { code = omega arith; small = omega (arith, dim .high); within = factor u low high }
     where
       factor : (u : ℕ) → 0 < u → u < d → timesIn u ≤ d
       factor zero low high = absurd (omega arith)
       factor (suc u) low high = rw (ne-eqb (suc u) 0 (λ e. omega arith)) (omega arith)
-  asked (Measure q) h = record { code = omega arith; small = omega arith; within = omega arith }
+  asked (Measure q) h g = absurd (false≢true (ap isGate g))
+  asked (Reset q) h g = absurd (false≢true (ap isGate g))
+  asked (Correct t m) h g = absurd (false≢true (ap isGate g))
 
   -- the bytes of an operation, with another last byte, are those of the one that undoes it
-  undone : (op : Operation) → allowed d n op ≡ true
+  undone : (op : Operation) → allowed d n op ≡ true → kind op ≡ gate
       → byte op 0 ∷ byte op 1 ∷ byte op 2 ∷ undoneByte d (byte op 0) (byte op 3) ∷ [] ≡ bytesOf (undoing d op)
   unfolding byte bytesOf
-  undone (Fourier q k) h = rw (power-byte k (single-facts 4 n q k h .1) .1)
-  undone (PhaseGate q k) h = rw (power-byte k (single-facts d n q k h .1) .1)
-  undone (Sum c t k) h = rw (power-byte k (pair-facts d n c t k h .3) .1)
-  undone (Cz c t k) h = rw (power-byte k (pair-facts d n c t k h .3) .1)
-  undone (Swap c t) h = refl
-  undone (Multiplier q u) h = refl
-  undone (Measure q) h = refl
+  undone (Fourier q k) h g = rw (power-byte k (single-facts 4 n q k h .1) .1)
+  undone (PhaseGate q k) h g = rw (power-byte k (single-facts d n q k h .1) .1)
+  undone (Sum c t k) h g = rw (power-byte k (pair-facts d n c t k h .3) .1)
+  undone (Cz c t k) h g = rw (power-byte k (pair-facts d n c t k h .3) .1)
+  undone (Swap c t) h g = refl
+  undone (Multiplier q u) h g = refl
+  undone (Measure q) h g = absurd (false≢true (ap isGate g))
+  undone (Reset q) h g = absurd (false≢true (ap isGate g))
+  undone (Correct t m) h g = absurd (false≢true (ap isGate g))
 
 -- the four bytes of a list that is known
 at-byte : {v : List ℕ} (a b c x : ℕ) → a ∷ b ∷ c ∷ x ∷ [] ≡ v → (a ≡ getD v 0 0) × (b ≡ getD v 1 0) × (c ≡ getD v 2 0) × (x ≡ getD v 3 0)
 at-byte a b c x e = rw (← e) (refl, refl, refl, refl)
 
 -- entry j of a body whose entries are allowed
-module _ (d n : ℕ) (dim : Dimension d) (ops : List ℕ) (j : ℕ) (inside : j < length ops / 4) (h : allowed d n (opAt (operationsOf d n ops) j) ≡ true) where
+module _ (d n : ℕ) (dim : Dimension d) (ops : List ℕ) (j : ℕ) (inside : j < length ops / 4) (h : allowed d n (opAt (operationsOf d n ops) j) ≡ true)
+    (g : kind (opAt (operationsOf d n ops) j) ≡ gate) where
   abbrev op : Operation
   op = opAt (operationsOf d n ops) j
 
@@ -99,11 +105,11 @@ module _ (d n : ℕ) (dim : Dimension d) (ops : List ℕ) (j : ℕ) (inside : j 
 
   entry-asked : Asked d code (at 3)
   unfolding byte
-  entry-asked = rw (own .0, own .3) (asked d n dim op h)
+  entry-asked = rw (own .0, own .3) (asked d n dim op h g)
 
   entry-undone : code ∷ at 1 ∷ at 2 ∷ undoneByte d code (at 3) ∷ [] ≡ bytesOf (undoing d op)
   unfolding byte
-  entry-undone = rw (own .0, own .1, own .2, own .3) (undone d n dim op h)
+  entry-undone = rw (own .0, own .1, own .2, own .3) (undone d n dim op h g)
 
 -- four stores, one behind the other
 stored : (v : List ℕ) (i a b c x : ℕ) → i + 3 < length v
@@ -138,8 +144,11 @@ module _ (d n : ℕ) (ops : List ℕ) (entries : Entries d n ops) (k : ℕ) (ins
   good : allowed d n (opAt (operationsOf d n ops) from) ≡ true
   good = entries .operations from (rw (op-count d n ops) low)
 
+  gated : kind (opAt (operationsOf d n ops) from) ≡ gate
+  gated = entries .gates from (rw (op-count d n ops) low)
+
   pub from-asked : Asked d (getD ops (4 * from) 0) (getD ops (4 * from + 3) 0)
-  from-asked = entry-asked d n dim ops from low good
+  from-asked = entry-asked d n dim ops from low good gated
 
   pub mirror-stored : (body : List ℕ) → length body ≡ length ops
       → set (set (set (set body (4 * k) (getD ops (4 * from) 0)) (4 * k + 1) (getD ops (4 * from + 1) 0)) (4 * k + 2) (getD ops (4 * from + 2) 0)) (4 * k + 3)
@@ -148,4 +157,4 @@ module _ (d n : ℕ) (ops : List ℕ) (entries : Entries d n ops) (k : ℕ) (ins
   mirror-stored body same =
       let q : from ≡ length (operationsOf d n ops) - suc k = omega (arith, op-count d n ops) in
       four-stored body (4 * k) _ _ _ _ (omega (arith, entries .whole))
-      ∙ ap (λ (v : List ℕ). put (4 * k) 4 v body) (entry-undone d n dim ops from low good ∙ ap (λ (i : ℕ). bytesOf (undoing d (opAt (operationsOf d n ops) i))) q)
+      ∙ ap (λ (v : List ℕ). put (4 * k) 4 v body) (entry-undone d n dim ops from low good gated ∙ ap (λ (i : ℕ). bytesOf (undoing d (opAt (operationsOf d n ops) i))) q)

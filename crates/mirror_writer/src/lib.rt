@@ -6,10 +6,10 @@ ghost use Prim.Native.Nat.{_+_, _*_, _/_, _<_, _≤_};
 ghost use lib.ListN.{length, getD};
 ghost use Rattle.modular.specs.Dimension.{listed};
 ghost use Rattle.tableau.specs.Tableau.{put};
-ghost use Rattle.circuit.specs.Circuit.{kind, measurementCount};
+ghost use Rattle.circuit.specs.Circuit.{kind, choiceCount};
 ghost use Rattle.book_entries.specs.Entry.{timesIn, timesByte, bytesOf};
 ghost use Rattle.book.specs.Decoded.{operationsOf};
-ghost use Rattle.operation_codes.specs.Allowed.{AllAllowed};
+ghost use Rattle.operation_codes.specs.Allowed.{AllAllowed, AllNamed};
 ghost use Rattle.written_book.specs.Written.{bookOf};
 ghost use Rattle.written_book.specs.Writer.{overwritten};
 ghost use Rattle.mirror_book.specs.Mirrored.{mirrorAt, mirrored};
@@ -40,6 +40,8 @@ fn is_gate(operation: Operation) -> bool
         Operation::Swap { c: _, t: _ } => true,
         Operation::Multiplier { q: _, u: _ } => true,
         Operation::Measure { q: _ } => false,
+        Operation::Reset { q: _ } => false,
+        Operation::Correct { t: _, m: _ } => false,
     }
 }
 
@@ -59,13 +61,15 @@ fn first_measurement(ops: &[u8], d: u8, n: usize) -> Place
     Place::Nowhere
 }
 
-// The same for a book whose measurements the reader has counted: one without any is not searched.
-fn measurement_in(ops: &[u8], measurements: usize, d: u8, n: usize) -> Place
+// The same for a book whose choices the reader has counted: where none is taken, no measurement can be named either, and nothing is
+// searched.
+fn measurement_in(ops: &[u8], choices: usize, d: u8, n: usize) -> Place
     requires { ⌜ AllAllowed d n (operationsOf d n (now ops))
-        × (measurements ≡ measurementCount (operationsOf d n (now ops))) ⌝ }
+        × AllNamed (operationsOf d n (now ops))
+        × (choices ≡ choiceCount (operationsOf d n (now ops))) ⌝ }
     ensures { λ r. ⌜ r ≡ firstMeasurement (operationsOf d n (now (ops .entry))) ⌝ }
 {
-    if measurements == 0 {
+    if choices == 0 {
         return Place::Nowhere;
     }
     first_measurement(ops, d, n)

@@ -5,12 +5,12 @@ use mathlib.Core.Bool.{true, false}
 use mathlib.Core.List.{List, [], _∷_}
 use Prim.Native.Nat.{ℕ}
 use Rattle.modular.specs.Dimension.{inverse, powerOf}
-use Rattle.operation.specs.declared.Operation.the-variants.{Fourier, PhaseGate, Sum, Cz, Swap, Multiplier}
+use Rattle.operation.specs.declared.Operation.the-variants.{Fourier, PhaseGate, Sum, Cz, Swap, Multiplier, Measure, Reset, Correct}
 use Rattle.operation.specs.declared.WeylError.{WeylError}
-use Rattle.operation.specs.Operation.{allowed}
+use Rattle.operation.specs.Operation.{allowed, named}
 use Rattle.operation.specs.Gate.{gatePowers, gatePhase, gateRow}
 use Rattle.operation.specs.Repeated.{timesOf, once}
-use Rattle.operation.specs.Error.{errorRow, errorFrame}
+use Rattle.operation.specs.Error.{errorRow, errorFrame, minusX}
 
 abbrev row : List ℕ
 row = 1 ∷ 2 ∷ 3 ∷ 4 ∷ 1 ∷ []
@@ -84,3 +84,15 @@ singly :
     (timesOf (Fourier 0 3) ≡ 3) × (timesOf (PhaseGate 0 4) ≡ 4) × (timesOf (Sum 0 1 4) ≡ 4) × (timesOf (Cz 0 1 4) ≡ 4) × (once (Fourier 0 3) ≡ Fourier 0 1)
     × (once (PhaseGate 0 4) ≡ PhaseGate 0 1) × (once (Sum 0 1 4) ≡ Sum 0 1 1) × (once (Cz 0 1 4) ≡ Cz 0 1 1)
 singly = (refl, refl, refl, refl, refl, refl, refl, refl)
+
+-- A correction names a measurement before it, of which there are 2 here: 1 and not 2, and none where there are none. Its target is below
+-- n; a reset names none.
+names :
+    (named 2 (Correct 0 1) ≡ true) × (named 2 (Correct 0 2) ≡ false) × (named 0 (Correct 0 0) ≡ false) × (named 0 (Reset 0) ≡ true) × (named 0 (Measure 0) ≡ true)
+    × (allowed 5 2 (Correct 1 9) ≡ true) × (allowed 5 2 (Correct 2 0) ≡ false) × (allowed 5 2 (Reset 2) ≡ false)
+names = (refl, refl, refl, refl, refl, refl, refl, refl)
+
+-- X to the minus 2 on qudit 1 is X^3 there: the phase gains 2 times the Z power, and a frame loses 2
+less-two : (errorRow 5 2 (minusX 5 1 2) row ≡ 1 ∷ 2 ∷ 3 ∷ 4 ∷ 4 ∷ []) × (errorFrame 5 2 (minusX 5 1 2) (1 ∷ 2 ∷ 3 ∷ 4 ∷ []) ≡ 1 ∷ 0 ∷ 3 ∷ 4 ∷ [])
+unfolding errorRow errorFrame
+less-two = (refl, refl)

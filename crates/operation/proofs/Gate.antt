@@ -15,7 +15,7 @@ use Rattle.row.proofs.Laws.{powers-of}
 use Rattle.tableau.specs.Tableau.{every}
 use Rattle.tableau.proofs.Parts.{Keeps}
 use Rattle.operation.specs.declared.Operation.{Operation}
-use Rattle.operation.specs.declared.Operation.the-variants.{Fourier, PhaseGate, Sum, Cz, Swap, Multiplier, Measure}
+use Rattle.operation.specs.declared.Operation.the-variants.{Fourier, PhaseGate, Sum, Cz, Swap, Multiplier, Measure, Reset, Correct}
 use Rattle.operation.specs.Operation.{allowed}
 use Rattle.operation.specs.Gate.{gatePowers, gatePhase, gateRow}
 use Rattle.operation.proofs.Operands.{distinct-facts, single-facts, pair-facts}
@@ -31,6 +31,8 @@ module _ (d n : ℕ) where
   gate-powers-length (Swap c t) v = simp length-set
   gate-powers-length (Multiplier q u) v = simp length-set
   gate-powers-length (Measure q) v = refl
+  gate-powers-length (Reset q) v = refl
+  gate-powers-length (Correct t m) v = refl
 
   pub gate-row-length : (op : Operation) (v : List ℕ) → length (gateRow d n op v) ≡ length v
   unfolding gateRow
@@ -55,6 +57,8 @@ module _ (d n : ℕ) where
   gate-past (Multiplier q u) v h =
       let l = single-facts d n q u h in past-store _ _ (omega arith) (past-store _ _ (omega arith) past-same)
   gate-past (Measure q) v h = past-same
+  gate-past (Reset q) v h = past-same
+  gate-past (Correct t m) v h = past-same
 
   pub phase-kept : (op : Operation) (v : List ℕ) → allowed d n op ≡ true → phaseOf n (gatePowers d n op v) ≡ phaseOf n v
   phase-kept op v h = gate-past op v h .kept (2 * n) (le-refl (2 * n))
@@ -98,6 +102,8 @@ module _ (d n : ℕ) where
         (p .below (n + c) (omega arith))
     gate-powers (Multiplier q u) v h p = powers-store _ (powers-store _ p (mod-lt _ low)) (mod-lt _ low)
     gate-powers (Measure q) v h p = p
+    gate-powers (Reset q) v h p = p
+    gate-powers (Correct t m) v h p = p
 
     pub gate-row : (op : Operation) (v : List ℕ) → allowed d n op ≡ true → Row d n v → Row d n (gateRow d n op v)
     unfolding gateRow

@@ -23,3 +23,7 @@ errorRows d n e t = onRows n (every (errorRow d n e)) t
 -- An error adds its powers to the frame.
 unfoldable pub errorFrame : ℕ → ℕ → WeylError → List ℕ → List ℕ
 errorFrame d n e F = withZ n (e .qudit) ((zOf n F (e .qudit) + e .s) % d) (withX (e .qudit) ((xOf F (e .qudit) + e .p) % d) F)
+
+-- X to the minus r on qudit q, as an error
+abbrev pub minusX : (d q r : ℕ) → WeylError
+minusX d q r = record { place = 0; qudit = q; p = neg d r; s = 0 }

@@ -9,7 +9,7 @@ use Rattle.modular.specs.Dimension.{inverse}
 use Rattle.row.specs.Row.{xOf, zOf, phaseOf}
 use Rattle.tableau.specs.Tableau.{onRows, every}
 use Rattle.operation.specs.declared.Operation.{Operation}
-use Rattle.operation.specs.declared.Operation.the-variants.{Fourier, PhaseGate, Sum, Cz, Swap, Multiplier, Measure}
+use Rattle.operation.specs.declared.Operation.the-variants.{Fourier, PhaseGate, Sum, Cz, Swap, Multiplier, Measure, Reset, Correct}
 
 -- v with another X power of qudit q, another Z power of qudit q, another phase
 abbrev pub withX : ℕ → ℕ → List ℕ → List ℕ
@@ -28,7 +28,7 @@ fourierX d k a b = cond (eqb k 1) (neg d b) (cond (eqb k 2) (neg d a) b)
 abbrev pub fourierZ : ℕ → ℕ → ℕ → ℕ → ℕ
 fourierZ d k a b = cond (eqb k 1) a (cond (eqb k 2) (neg d b) (neg d a))
 
--- The powers after a gate applied k times. A measurement is no gate, and does nothing here.
+-- The powers after a gate applied k times. Measurement, reset and correction are no gates, and do nothing here.
 --   Fourier      (a,b) becomes (−b,a), (−a,−b) or (b,−a)
 --   phase gate   b gains k·a
 --   SUM          a_t gains k·a_c; b_c loses k·b_t
@@ -43,6 +43,8 @@ gatePowers d n (Cz c t k) v = withZ n t ((zOf n v t + k * xOf v c) % d) (withZ n
 gatePowers d n (Swap c t) v = withZ n t (zOf n v c) (withX t (xOf v c) (withZ n c (zOf n v t) (withX c (xOf v t) v)))
 gatePowers d n (Multiplier q u) v = withZ n q (zOf n v q * inverse d u % d) (withX q (xOf v q * u % d) v)
 gatePowers d n (Measure q) v = v
+gatePowers d n (Reset q) v = v
+gatePowers d n (Correct t m) v = v
 
 -- What it adds to the phase: Fourier −ab once and three times, nothing twice; phase gate k·a(a−1)/2; CZ k·a_c·a_t.
 unfoldable pub gatePhase : ℕ → ℕ → Operation → List ℕ → ℕ
@@ -53,6 +55,8 @@ gatePhase d n (Cz c t k) v = k * (xOf v c * xOf v t)
 gatePhase d n (Swap c t) v = 0
 gatePhase d n (Multiplier q u) v = 0
 gatePhase d n (Measure q) v = 0
+gatePhase d n (Reset q) v = 0
+gatePhase d n (Correct t m) v = 0
 
 unfoldable pub gateRow : ℕ → ℕ → Operation → List ℕ → List ℕ
 gateRow d n op v = withPhase n ((phaseOf n v + gatePhase d n op v) % d) (gatePowers d n op v)

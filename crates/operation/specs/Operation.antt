@@ -1,9 +1,9 @@
 -- The operations' operands.
-use mathlib.Core.Bool.{Bool, not, _&&_}
+use mathlib.Core.Bool.{Bool, true, not, _&&_}
 use Prim.Native.Nat.{ℕ}
 use lib.Dec.{eqb, ltb, leb}
 use Rattle.operation.specs.declared.Operation.{Operation}
-use Rattle.operation.specs.declared.Operation.the-variants.{Fourier, PhaseGate, Sum, Cz, Swap, Multiplier, Measure}
+use Rattle.operation.specs.declared.Operation.the-variants.{Fourier, PhaseGate, Sum, Cz, Swap, Multiplier, Measure, Reset, Correct}
 
 -- q, c, t are below n, and c differs from t.
 abbrev pub distinct : ℕ → ℕ → ℕ → Bool
@@ -22,3 +22,17 @@ allowed d n (Cz c t k) = distinct n c t && fromOne d k
 allowed d n (Swap c t) = distinct n c t
 allowed d n (Multiplier q u) = ltb q n && fromOne d u
 allowed d n (Measure q) = ltb q n
+allowed d n (Reset q) = ltb q n
+allowed d n (Correct t m) = ltb t n
+
+-- A named measurement must come earlier in the book: it is one of the `earlier` measurements that stand before the operation.
+abbrev pub named : (earlier : ℕ) → Operation → Bool
+named earlier (Fourier q k) = true
+named earlier (PhaseGate q k) = true
+named earlier (Sum c t k) = true
+named earlier (Cz c t k) = true
+named earlier (Swap c t) = true
+named earlier (Multiplier q u) = true
+named earlier (Measure q) = true
+named earlier (Reset q) = true
+named earlier (Correct t m) = ltb m earlier

@@ -1,7 +1,7 @@
-// The seven operations, a step, and an error.
+// The nine operations, a step, and an error.
 
-// Each case has the operands of its line in the table of operations: q, c and t are qudits, u is a factor, and `times` says how often
-// the gate is applied.
+// Each case has the operands of its line in the table of operations: q, c and t are qudits, u is a factor, m is the number of a
+// measurement, and `times` says how often the gate is applied.
 pub enum Operation {
     Fourier { q: usize, times: u8 },
     PhaseGate { q: usize, times: u8 },
@@ -10,6 +10,8 @@ pub enum Operation {
     Swap { c: usize, t: usize },
     Multiplier { q: usize, u: u8 },
     Measure { q: usize },
+    Reset { q: usize },
+    Correct { t: usize, m: usize },
 }
 
 // An operation together with its index in the book.

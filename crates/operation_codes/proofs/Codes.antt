@@ -4,14 +4,16 @@ use mathlib.Core.Path.{_≡_, refl, sym, ap, _∙_}
 use mathlib.Core.Logic.{_≢_}
 use mathlib.Core.Bool.{Bool, true, false, _&&_, and-eq-true-iff}
 use mathlib.Core.List.{List, [], _∷_}
+use native.Mathlib.Decide.{ℕ-discrete}
 use Prim.Native.Nat.{ℕ, zero, suc, _+_, _*_, _/_, _<_, _≤_}
 use native.Mathlib.Omega.{arith}
 use lib.Dec.{ltb, leb}
 use lib.ListN.{length, getD}
 use borrow.Author.Tests.{leb-true}
 use Rattle.operation.specs.declared.Operation.{Operation}
-use Rattle.operation.specs.declared.Operation.the-variants.{Measure}
+use Rattle.operation.specs.declared.Operation.the-variants.{Measure, Reset, Correct}
 use Rattle.operation.specs.Operation.{allowed}
+use Rattle.operation.specs.Gate.{gatePowers, gateFrame}
 use Rattle.operation.proofs.Operands.{distinct-facts}
 use Rattle.circuit.specs.Circuit.{opAt, gate, kind}
 use Rattle.book_entries.specs.declared.Decoded.{Decoded}
@@ -19,7 +21,7 @@ use Rattle.book_entries.specs.declared.Decoded.the-variants.{Good}
 use Rattle.book_entries.specs.Entry.{bytesOf, goodIf, coded, operationAt}
 use Rattle.book_entries.specs.Fits.{fits}
 use Rattle.book_entries.proofs.Decoding.{decoded-exactly}
-use Rattle.book_entries.proofs.Fitting.{by-fits, coded-other}
+use Rattle.book_entries.proofs.Fitting.{by-fits}
 use Rattle.book.specs.Decoded.{operationIn, operationsOf}
 use Rattle.book.proofs.Lists.{op-at}
 
@@ -27,6 +29,19 @@ use Rattle.book.proofs.Lists.{op-at}
 fitting : (d n : ℕ) {x : Decoded} (t : Bool) (op : Operation) → x ≡ goodIf t op → allowed d n (operationIn x) ≡ true → t ≡ true
 fitting d n true op e h = refl
 fitting d n false op e h = absurd (distinct-facts n 0 0 (sym (ap (λ (x : Decoded). allowed d n (operationIn x)) e) ∙ h) .2 refl)
+
+-- numbers from 6 up, and up to 8
+six : (b : ℕ) → b ≢ 0 → b ≢ 1 → b ≢ 2 → b ≢ 3 → b ≢ 4 → b ≢ 5 → 6 ≤ b
+six zero x y z u v w = absurd (x refl)
+six (suc zero) x y z u v w = absurd (y refl)
+six (suc (suc zero)) x y z u v w = absurd (z refl)
+six (suc (suc (suc zero))) x y z u v w = absurd (u refl)
+six (suc (suc (suc (suc zero)))) x y z u v w = absurd (v refl)
+six (suc (suc (suc (suc (suc zero))))) x y z u v w = absurd (w refl)
+six (suc (suc (suc (suc (suc (suc b)))))) x y z u v w = omega arith
+
+eight : (b : ℕ) → 6 ≤ b → b ≤ 8 → b ≢ 6 → b ≢ 7 → b ≡ 8
+eight b low high x y = omega (arith, x, y)
 
 -- every code below 6 is a gate's
 gates : (b0 b1 b2 b3 : ℕ) → b0 < 6 → kind (coded b0 b1 b2 b3) ≡ gate
@@ -67,14 +82,34 @@ module _ (d n : ℕ) (ops : List ℕ) (k : ℕ) (inside : k < length ops / 4) (h
   unfolding coded
   code-6 e = is-coded ∙ rw e
 
-  -- none of the gates' codes is a measurement's
-  pub code-rest : (((((Unit {0} × (code ≢ 0)) × (code ≢ 1)) × (code ≢ 2)) × (code ≢ 3)) × (code ≢ 4)) × (code ≢ 5)
-      → opAt (operationsOf d n ops) k ≡ Measure (byte 1)
-  code-rest x = is-coded ∙ sym (coded-other code (byte 1) (byte 2) (byte 3) x)
+  pub code-7 : code ≡ 7 → opAt (operationsOf d n ops) k ≡ Reset (byte 1)
+  unfolding coded
+  code-7 e = is-coded ∙ rw e
 
-  -- any code but 6 is a gate's
-  pub code-gate : code ≢ 6 → kind (opAt (operationsOf d n ops) k) ≡ gate
+  pub code-8 : code ≡ 8 → opAt (operationsOf d n ops) k ≡ Correct (byte 1) (byte 2 + 256 * byte 3)
+  unfolding coded
+  code-8 e = is-coded ∙ rw e
+
+  -- a code from 6 up that is neither 6 nor 7 is the correction's
+  pub code-most : code ≤ 8
   unfolding fits
-  code-gate z =
-      let l : code ≤ 6 = leb-true code 6 (and-eq-true-iff (leb code 6) (ltb (byte 1) n) .0 (and-eq-true-iff (leb code 6 && ltb (byte 1) n) _ .0 fit .0) .0) in
-      ap kind is-coded ∙ gates code (byte 1) (byte 2) (byte 3) (omega (arith, z))
+  code-most = leb-true code 8 (and-eq-true-iff (leb code 8) (ltb (byte 1) n) .0 (and-eq-true-iff (leb code 8 && ltb (byte 1) n) _ .0 fit .0) .0)
+
+  -- any code below 6 is a gate's
+  pub code-gate : code < 6 → kind (opAt (operationsOf d n ops) k) ≡ gate
+  code-gate l = ap kind is-coded ∙ gates code (byte 1) (byte 2) (byte 3) l
+
+  -- none of the gates' codes: the entry does nothing to a frame as a gate
+  pub code-rest : (((((Unit {0} × (code ≢ 0)) × (code ≢ 1)) × (code ≢ 2)) × (code ≢ 3)) × (code ≢ 4)) × (code ≢ 5)
+      → (F : List ℕ) → gateFrame d n (opAt (operationsOf d n ops) k) F ≡ F
+  unfolding gatePowers
+  code-rest ((((((i, x), y), z), u), v), w) = by (ℕ-discrete code 6) (ℕ-discrete code 7)
+    where
+      still : {op : Operation} → opAt (operationsOf d n ops) k ≡ op → ((F : List ℕ) → gateFrame d n op F ≡ F)
+          → (F : List ℕ) → gateFrame d n (opAt (operationsOf d n ops) k) F ≡ F
+      still e h = rw e h
+
+      by : Dec (code ≡ 6) → Dec (code ≡ 7) → (F : List ℕ) → gateFrame d n (opAt (operationsOf d n ops) k) F ≡ F
+      by (yes e) b = still (code-6 e) (λ F. refl)
+      by (no a) (yes e) = still (code-7 e) (λ F. refl)
+      by (no a) (no b) = still (code-8 (eight code (six code x y z u v w) code-most a b)) (λ F. refl)

@@ -1,2 +1,2 @@
--- The codes of the seven operations.
+-- The codes of the nine operations.
 pub mod Codes

@@ -17,7 +17,7 @@ use Rattle.written_book.specs.Written.{ReadsWritten, BodiesBack, OnlyBook}
 use Rattle.written_book.specs.Writer.{Rewritten, FillsOnlyBook}
 use Rattle.written_book.specs.Errorless.{ErrorlessAccepted}
 use Rattle.tray.specs.Tray.{OnlyTray}
-use Rattle.run_laws.specs.Carrying.{StepKeepsValid, RunKeepsValid, FrameKeepsValid, RunsAgree, RunsAgreeFrom, FrameIsClean, CleanRows, CleanLists}
+use Rattle.run_laws.specs.Carrying.{StepKeepsValid, RunKeepsValid, FrameKeepsValid, ResetClears, RunsAgree, RunsAgreeFrom, FrameIsClean, CleanRows, CleanLists}
 use Rattle.shots.specs.Clean.{CleanServes}
 use Rattle.book_laws.specs.Agreement.{SecondAccepted, Demand3}
 use Rattle.book_laws.specs.Clean.{CleanExactly, WithoutErrors}
@@ -57,6 +57,7 @@ use Rattle.measurement_laws.proofs.Certain as certain
 use Rattle.measurement_laws.proofs.Free as free
 use Rattle.measurement_laws.proofs.Generates as generates
 use Rattle.run_laws.proofs.Sound as steps
+use Rattle.run_laws.proofs.Reset as reset
 use Rattle.run_laws.proofs.Clean as clean
 use Rattle.run_laws.proofs.Buffers as buffers
 use Rattle.run_laws.proofs.Fold as fold
@@ -308,6 +309,10 @@ run-keeps-valid = steps.run-keeps-valid
 -- Over lists: so does the frame run, from any frame.
 pub frame-keeps-valid : FrameKeepsValid
 frame-keeps-valid = clean.frame-keeps-valid
+
+-- After a reset a look at the qudit is certain, with outcome 0.
+pub reset-clears : ResetClears
+reset-clears = reset.reset-clears
 
 -- What the layer leaves passes the tableau test.
 pub layer-leaves-valid : LayerLeavesValid

@@ -2,6 +2,8 @@
 pub mod Shift
 pub mod Rows
 pub mod Looks
+pub mod Corrections
+pub mod Reset
 pub mod Books
 pub mod Sound
 pub mod Fold

@@ -31,7 +31,7 @@ use Rattle.run_laws.proofs.Shift.{reads-shift, shift-z}
 use Rattle.run_laws.proofs.Rows.{shifted-at, weighted-shifted}
 
 -- −(−x)
-neg-neg : (e : ℕ) {x : ℕ} → x < suc e → x ≡ neg (suc e) (neg (suc e) x)
+pub neg-neg : (e : ℕ) {x : ℕ} → x < suc e → x ≡ neg (suc e) (neg (suc e) x)
 neg-neg e {x} l =
     sym
     (small-cong (cong-trans (neg-is e _) (cong-trans (cong-mul-left e (neg-is e x)) (record { p = x; q = e * x; eq = omega arith })))

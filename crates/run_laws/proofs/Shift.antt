@@ -130,7 +130,7 @@ shift-gate (suc e) n dim op h F p {v} a =
         (pair-map e n (mapped d n op) (gained d n op) (acts dim op h .hom) (bytes F) (bytes v))
 
 -- An error is the shift by its own X^p Z^s.
-error-shifts : (d n : ℕ) → Dimension d → (er : WeylError) → errorAllowed d n er ≡ true → (v : List ℕ) → Row d n v
+pub error-shifts : (d n : ℕ) → Dimension d → (er : WeylError) → errorAllowed d n er ≡ true → (v : List ℕ) → Row d n v
     → errorRow d n er v ≡ shiftRow d n (operator d n er) v
 unfolding shiftRow
 error-shifts = error-pairs

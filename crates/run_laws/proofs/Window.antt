@@ -80,6 +80,9 @@ module _ (n : ℕ) {t u : List ℕ} where
     pub window-gate : (d : ℕ) (op : Operation) → Window n (gateRows d n op t) (gateRows d n op u)
     window-gate d op = window-on (every (gateRow d n op)) (gate-keeps d n op)
 
+    pub window-error : (d : ℕ) (e : WeylError) → Window n (errorRows d n e t) (errorRows d n e u)
+    window-error d e = window-on (every (errorRow d n e)) (error-keeps d n e)
+
     pub window-collapse : (d q k m : ℕ) → 1 < d → k < n → Window n (collapse d n q k m t) (collapse d n q k m u)
     unfolding collapse
     window-collapse d q k m low l =
@@ -111,5 +114,5 @@ window-errors d n errors k {t} {u} w (suc j) = by (eqb (errAt errors j .place) k
     at x = errorsOnRows d n errors k x j
 
     by : (b : Bool) → Window n (at t) (at u) → Window n (cond b (errorRows d n e (at t)) (at t)) (cond b (errorRows d n e (at u)) (at u))
-    by true v = window-on n v (every (errorRow d n e)) (error-keeps d n e)
+    by true v = window-error n v d e
     by false v = v

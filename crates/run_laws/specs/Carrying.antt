@@ -12,13 +12,15 @@ use Rattle.operation.specs.declared.WeylError.{WeylError}
 use Rattle.circuit.specs.Circuit.{measured, Accepted}
 use Rattle.validity.specs.Validity.{Valid}
 use Rattle.measurement_laws.specs.Stabilizers.{SameSet}
-use Rattle.runs.specs.Direct.{State, directStep, directRun}
+use Rattle.measurement.specs.declared.Look.the-variants.{Certain}
+use Rattle.measurement.specs.Look.{look}
+use Rattle.runs.specs.Direct.{State, resetRows, directStep, directRun}
 use Rattle.runs.specs.Frame.{FrameEnd, noFrame, shiftRows, verdictOf, frameLeaves, frameRunFrom, frameRun}
 use Rattle.runs.specs.Raised.{raised}
 use Rattle.runs.specs.Carry.{cleanCarried}
 
 -- Validity survives every operation and error: each step of the direct run keeps it (the errors of its place, then any of the
--- seven operations), and so does the whole run.
+-- nine operations), and so does the whole run.
 abbrev pub StepKeepsValid : Type 0
 StepKeepsValid = (d n : ℕ) → Dimension d → (ops : List Operation) (errors : List WeylError) (choices : List ℕ)
     → Accepted d n ops errors choices
@@ -34,6 +36,11 @@ abbrev pub FrameKeepsValid : Type 0
 FrameKeepsValid = (d n : ℕ) → Dimension d → (ops : List Operation) (errors : List WeylError) (choices F : List ℕ)
     → Accepted d n ops errors choices
     → (st : State) → Valid d n (st .rows) → (shifts frame : List ℕ) → Valid d n (frameRunFrom d n ops errors choices F st shifts frame .rows)
+
+-- A reset leaves its qudit at level 0: a look at it is then certain, with outcome 0.
+abbrev pub ResetClears : Type 0
+ResetClears = (d n : ℕ) → Dimension d → (choices : List ℕ) (c q : ℕ) (t : List ℕ) → Valid d n t → q < n → getD choices c 0 < d
+    → look d n (resetRows d n choices c q t (look d n t q)) q ≡ Certain 0
 
 -- The needed bytes of the tableaus, and the two bytes per measurement, are equal.
 pub record Agree (n measurements : ℕ) (direct : State) (framed : FrameEnd) : Type 0 where
@@ -68,6 +75,7 @@ RunsAgreeFrom = (d n : ℕ) → Dimension d → (ops : List Operation) (errors :
 -- added to the rows, gives the shifts and the verdict.
 abbrev pub FrameIsClean : Type 0
 FrameIsClean = (d n : ℕ) (ops : List Operation) (errors : List WeylError) (choices F : List ℕ) (st : State) (shifts frame : List ℕ)
+    → 0 < d
     → 2 * measured ops (length ops) ≤ length (st .results)
     → frameRunFrom d n ops errors choices F st shifts frame
     ≡ frameLeaves d n ops errors choices shifts frame (cleanCarried d n ops errors F (directRun d n ops [] choices st))
@@ -83,5 +91,6 @@ abbrev pub CleanLists : Type 0
 CleanLists = (d n : ℕ) → Dimension d → (ops : List Operation) (errors : List WeylError) (choices F : List ℕ)
     → Accepted d n ops errors choices
     → (st : State) → Valid d n (st .rows) → (shifts frame : List ℕ)
+    → 2 * measured ops (length ops) ≤ length (st .results)
     → let framed = frameRunFrom d n ops errors choices F st shifts frame in
     (framed .verdict ≡ 0) ↔ SameSet d n (framed .rows) (directRun d n ops [] choices st .rows)

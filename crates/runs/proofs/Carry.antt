@@ -76,6 +76,13 @@ module _ (d : ℕ) (shifts : List ℕ) where
         ∙ getD-drop (2 * count) v (i - 2 * count) 0
         ∙ ap (λ (x : ℕ). getD v x 0) q
 
+    -- an outcome that has gained its shift, and one that has not
+    pub with-outcome : (j : ℕ) → j < count → getD (withShifts d shifts count v) (2 * j) 0 ≡ (getD v (2 * j) 0 + getD shifts j 0) % d
+    with-outcome j l = with-in (2 * j) (omega arith) ∙ shifted-outcome v j
+
+    pub with-later : (j : ℕ) → count ≤ j → getD (withShifts d shifts count v) (2 * j) 0 ≡ getD v (2 * j) 0
+    with-later j l = with-past (2 * j) (omega arith)
+
   module _ (v : List ℕ) (j : ℕ) (room : 2 * j + 1 < length v) where
     abbrev w : List ℕ
     w = withShifts d shifts j v

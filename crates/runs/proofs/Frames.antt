@@ -17,11 +17,12 @@ use Rattle.operation.specs.declared.WeylError.{WeylError}
 use Rattle.operation.specs.Operation.{allowed}
 use Rattle.operation.specs.Gate.{gateFrame}
 use Rattle.operation.specs.Error.{errorFrame}
-use Rattle.operation.proofs.Stores.{row-phase}
+use Rattle.operation.proofs.Stores.{row-phase, powers-store}
 use Rattle.operation.proofs.Gate.{gate-powers-length, gate-powers}
 use Rattle.operation.proofs.Error.{error-frame-length, error-powers}
-use Rattle.circuit.specs.Circuit.{errAt}
-use Rattle.runs.specs.Frame.{Frame, noFrame, errorsOnFrame, shiftRow}
+use Rattle.circuit.specs.Circuit.{opAt, errAt, Kind, gate, measures, resets, corrects}
+use Rattle.runs.specs.Frame.{Frame, noFrame, errorsOnFrame, resetFrame, correctFrame, shiftRow}
+use Rattle.runs.specs.Raised.{Carry, carryBy}
 
 -- the first frame has no powers; bytes past a list's end count as 0
 zeros : (m s : ℕ) → getD (replicate {A = ℕ} m 0) s 0 ≡ 0
@@ -60,6 +61,21 @@ module _ (d n : ℕ) (low : 0 < d) where
       by : (b : Bool) → Frame d n G → Frame d n (cond b (errorFrame d n (errAt errors j) G) G)
       by true g = error-frame (errAt errors j) G g
       by false g = g
+
+  pub reset-frame : (q : ℕ) (F : List ℕ) → Frame d n F → Frame d n (resetFrame q F)
+  reset-frame q F f = record { powers = powers-store q (f .powers) low; len = length-set F q 0 ∙ f .len }
+
+  pub correct-frame : (t shift : ℕ) (F : List ℕ) → Frame d n F → Frame d n (correctFrame d t shift F)
+  correct-frame t shift F f = record { powers = powers-store t (f .powers) (mod-lt _ low); len = length-set F t _ ∙ f .len }
+
+  -- what is carried over an operation
+  pub carry-frame : (ops : List Operation) (errors : List WeylError) (k : ℕ) (C : Carry) → allowed d n (opAt ops k) ≡ true → Frame d n (C .frame) → (x : Kind)
+      → Frame d n (carryBy d n ops errors k x C .frame)
+  unfolding carryBy
+  carry-frame ops errors k C h f gate = gate-frame (opAt ops k) (C .frame) h f
+  carry-frame ops errors k C h f (measures q) = f
+  carry-frame ops errors k C h f (resets q) = reset-frame q (C .frame) f
+  carry-frame ops errors k C h f (corrects t m) = correct-frame t _ (C .frame) f
 
 module _ (d n : ℕ) (F : List ℕ) where
   pub shift-keeps : Keeps (2 * n + 1) (every (shiftRow d n F))

@@ -7,7 +7,7 @@ use native.Mathlib.Nat.{le-antisymm}
 use lib.ListN.{length}
 use Rattle.operation.specs.declared.Operation.{Operation}
 use Rattle.operation.specs.declared.WeylError.{WeylError}
-use Rattle.circuit.specs.Circuit.{measured}
+use Rattle.circuit.specs.Circuit.{measured, chosen}
 use Rattle.runs.specs.declared.Position.{Position}
 use Rattle.runs.specs.Reached.{AtStep}
 use Rattle.runs.specs.Run.{stepsFrom}
@@ -19,9 +19,9 @@ module _ {A : Type 0} (ops : List Operation) (errors : List WeylError) (step : �
     pub at-step : AtStep ops errors k at
     pub so-far : state ≡ stepsFrom step 0 first k
 
-  pub progress-start : RunProgress 0 (record { entry = 0; measurements = 0 }) first
-  unfolding measured stepsFrom
-  progress-start = record { at-step = record { reached = reached-none errors; count = refl }; so-far = refl }
+  pub progress-start : RunProgress 0 (record { entry = 0; measurements = 0; choices = 0 }) first
+  unfolding measured chosen stepsFrom
+  progress-start = record { at-step = record { reached = reached-none errors; count = refl; taken = refl }; so-far = refl }
 
   module _ {k : ℕ} {at : Position} {state : A} (g : RunProgress k at state) where
     pub progress-more : {next : Position} {after : A} → after ≡ step k state → AtStep ops errors (k + 1) next → RunProgress (k + 1) next after

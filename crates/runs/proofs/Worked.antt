@@ -11,17 +11,17 @@ use Rattle.row_laws.specs.Scalar.{scalar}
 use Rattle.search.specs.Search.{all, firstNot}
 use Rattle.tableau.specs.Tableau.{part, put, eachRow}
 use Rattle.operation.specs.declared.Operation.{Operation}
-use Rattle.operation.specs.declared.Operation.the-variants.{Fourier, Sum, Measure}
+use Rattle.operation.specs.declared.Operation.the-variants.{Fourier, Sum, Measure, Reset, Correct}
 use Rattle.operation.specs.declared.WeylError.{WeylError}
 use Rattle.operation.specs.Gate.{gatePowers, gatePhase, gateRow}
 use Rattle.operation.specs.Error.{errorRow, errorFrame}
-use Rattle.circuit.specs.Circuit.{measured}
+use Rattle.circuit.specs.Circuit.{measured, chosen}
 use Rattle.measurement.specs.Look.{pivotOf, combination, weighted, look}
 use Rattle.measurement.specs.Collapse.{collapseRow, collapse}
 use Rattle.runs.specs.Run.{stepsFrom, withResult}
-use Rattle.runs.specs.Direct.{errorsOnRows, directLook, directKind, directErrors, directStep, directRun}
+use Rattle.runs.specs.Direct.{errorsOnRows, directLook, resetRows, directKind, directErrors, directStep, directRun}
 use Rattle.runs.specs.Frame.{FrameEnd, noFrame, errorsOnFrame, shiftRow, verdictOf, frameLook, frameKind, frameErrors, frameStep, frameSteps, frameLeaves, frameRunFrom, frameRun}
-use Rattle.runs.specs.Raised.{carryBy, frameBefore, carriedFrame, shiftBy, resultShifts, raised}
+use Rattle.runs.specs.Raised.{carryBy, frameBefore, carried, raiseBy, choiceRaises, raised}
 use Rattle.runs.specs.Carry.{withShifts, cleanCarried}
 
 -- The frame run leaves `end`, and so does the clean run with the carried frame; with the raised choices, the direct run leaves the same
@@ -74,9 +74,50 @@ Level0 = Both 1 [] (record { place = 0; qudit = 0; p = 0; s = 1 } ∷ []) [] []
     []
     (record { rows = 1 ∷ 0 ∷ 1 ∷ 0 ∷ 1 ∷ 0 ∷ []; results = []; shifts = 1 ∷ 0 ∷ []; frame = 0 ∷ 1 ∷ []; verdict = 0 })
 
-worked : Book × Ends × Free × Level0
-unfolding stepsFrom withResult measured frameRun frameRunFrom frameStep frameKind frameLook frameErrors frameSteps frameLeaves verdictOf shiftRow errorsOnFrame errorFrame raised resultShifts shiftBy carriedFrame carryBy frameBefore withShifts filled directRun directStep directKind directLook directErrors errorsOnRows errorRow look pivotOf firstNot combination weighted all collapse collapseRow eachRow part put product power pairing scalar zWith rowOf tab dot gateRow gatePowers gatePhase inverse powerOf
+-- Two qudits, one of them corrected by a result, the other reset, both free. X on qudit 0 shifts the first result by 1, so that the
+-- correction takes 1 out of the frame; the reset's choice is raised by the X power that the frame then has on qudit 0.
+abbrev Corrected : Type 0
+Corrected = Both 2 (Fourier 0 1 ∷ Sum 0 1 1 ∷ Measure 0 ∷ Correct 1 0 ∷ Fourier 0 1 ∷ Reset 0 ∷ Measure 1 ∷ Fourier 0 1 ∷ [])
+    (record { place = 2; qudit = 0; p = 1; s = 0 }
+    ∷ record { place = 5; qudit = 0; p = 1; s = 1 }
+    ∷ record { place = 6; qudit = 1; p = 0; s = 2 }
+    ∷ record { place = 8; qudit = 1; p = 1; s = 0 }
+    ∷ [])
+    (2 ∷ 1 ∷ 0 ∷ [])
+    (0 ∷ 2 ∷ 2 ∷ [])
+    (1 ∷ 0 ∷ 0 ∷ 0 ∷ 0
+    ∷ 0 ∷ 1 ∷ 0 ∷ 0 ∷ 0
+    ∷ 0 ∷ 0 ∷ 1 ∷ 0 ∷ 0
+    ∷ 0 ∷ 0 ∷ 0 ∷ 1 ∷ 0 ∷ [])
+    (9 ∷ 9 ∷ 9 ∷ 9 ∷ [])
+    (record {
+      rows =
+          0 ∷ 0 ∷ 1 ∷ 0 ∷ 1
+          ∷ 0 ∷ 1 ∷ 0 ∷ 0 ∷ 2
+          ∷ 2 ∷ 0 ∷ 0 ∷ 0 ∷ 0
+          ∷ 0 ∷ 0 ∷ 0 ∷ 1 ∷ 0 ∷ [];
+      results = 0 ∷ 1 ∷ 2 ∷ 0 ∷ [];
+      shifts = 2 ∷ 2 ∷ 0 ∷ 0 ∷ [];
+      frame = 1 ∷ 0 ∷ 0 ∷ 2 ∷ [];
+      verdict = 0;
+    })
+
+-- A certain measurement, a correction by its result, and a certain reset, which takes a choice and gives no result, with an error before
+-- each: bytes past the results are kept.
+abbrev Cleared : Type 0
+Cleared = Both 1 (Measure 0 ∷ Correct 0 0 ∷ Reset 0 ∷ [])
+    (record { place = 0; qudit = 0; p = 2; s = 0 } ∷ record { place = 1; qudit = 0; p = 1; s = 0 } ∷ record { place = 2; qudit = 0; p = 1; s = 1 } ∷ [])
+    (1 ∷ 2 ∷ [])
+    (0 ∷ 1 ∷ [])
+    (1 ∷ 0 ∷ 0 ∷ 0 ∷ 1 ∷ 0 ∷ [])
+    (9 ∷ 9 ∷ 9 ∷ 9 ∷ [])
+    (record { rows = 1 ∷ 0 ∷ 1 ∷ 0 ∷ 1 ∷ 0 ∷ []; results = 2 ∷ 0 ∷ 9 ∷ 9 ∷ []; shifts = 1 ∷ 0 ∷ []; frame = 0 ∷ 1 ∷ []; verdict = 0 })
+
+worked : Book × Ends × Free × Level0 × Corrected × Cleared
+unfolding stepsFrom withResult measured chosen frameRun frameRunFrom frameStep frameKind frameLook frameErrors frameSteps frameLeaves verdictOf shiftRow errorsOnFrame errorFrame raised choiceRaises raiseBy carried carryBy frameBefore withShifts filled directRun directStep directKind directLook resetRows directErrors errorsOnRows errorRow look pivotOf firstNot combination weighted all collapse collapseRow eachRow part put product power pairing scalar zWith rowOf tab dot gateRow gatePowers gatePhase inverse powerOf
 worked = (
+  record { framed = refl; carries = refl; raises = refl; after-errors = refl },
+  record { framed = refl; carries = refl; raises = refl; after-errors = refl },
   record { framed = refl; carries = refl; raises = refl; after-errors = refl },
   record { framed = refl; carries = refl; raises = refl; after-errors = refl },
   record { framed = refl; carries = refl; raises = refl; after-errors = refl },

@@ -23,7 +23,7 @@ withShifts d shifts count clean = filled (shiftedByteAt d clean shifts) clean (2
 
 -- the results of the clean run, each with the shift that the frame F, carried over the circuit, gives it
 abbrev pub reported : ℕ → ℕ → List Operation → List WeylError → List ℕ → List ℕ → List ℕ
-reported d n ops errors F clean = withShifts d (resultShifts d n ops errors 0 F (length ops)) (measurementCount ops) clean
+reported d n ops errors F clean = withShifts d (resultShifts d n ops errors F) (measurementCount ops) clean
 
 -- what the clean run has left, and the frame F carried to the end
 abbrev pub cleanCarried : ℕ → ℕ → List Operation → List WeylError → List ℕ → State → FrameState
@@ -32,4 +32,5 @@ cleanCarried d n ops errors F clean =
       rows = clean .rows;
       results = reported d n ops errors F (clean .results);
       frame = finalFrame d n ops errors F;
+      shifts = resultShifts d n ops errors F;
     }

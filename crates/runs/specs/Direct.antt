@@ -7,13 +7,13 @@ use lib.ListN.{length, getD}
 use Rattle.operation.specs.declared.Operation.{Operation}
 use Rattle.operation.specs.declared.WeylError.{WeylError}
 use Rattle.operation.specs.Gate.{gateRows}
-use Rattle.operation.specs.Error.{errorRows}
-use Rattle.circuit.specs.Circuit.{opAt, errAt, Kind, gate, measures, kind, measured}
+use Rattle.operation.specs.Error.{errorRows, minusX}
+use Rattle.circuit.specs.Circuit.{opAt, errAt, Kind, gate, measures, resets, corrects, kind, measured, chosen}
 use Rattle.measurement.specs.declared.Look.{Look}
 use Rattle.measurement.specs.declared.Look.the-variants.{Free, Certain}
 use Rattle.measurement.specs.Look.{look}
 use Rattle.measurement.specs.Collapse.{collapse}
-use Rattle.runs.specs.Run.{stepsFrom, withResult}
+use Rattle.runs.specs.Run.{stepsFrom, withResult, resultOf}
 
 pub record State : Type 0 where
   pub rows : List ℕ
@@ -30,19 +30,28 @@ errorsOnRows d n errors k t (suc j) =
     cond (eqb (errAt errors j .place) k) (errorRows d n (errAt errors j) (errorsOnRows d n errors k t j)) (errorsOnRows d n errors k t j)
 
 module _ (d n : ℕ) (choices : List ℕ) where
-  -- Measurement j, of qudit q, takes choice j, whether it is used or not. A result is the measurement's outcome.
-  unfoldable pub directLook : ℕ → ℕ → State → Look → State
-  directLook j q st (Free k) =
-      record { rows = collapse d n q k (getD choices j 0) (st .rows); results = withResult (st .results) j (getD choices j 0) 1 }
-  directLook j q st (Certain outcome) = record { rows = st .rows; results = withResult (st .results) j outcome 0 }
+  -- Measurement j, of qudit q, takes choice c, whether it is used or not. A result is the measurement's outcome.
+  unfoldable pub directLook : (c j q : ℕ) → State → Look → State
+  directLook c j q st (Free k) =
+      record { rows = collapse d n q k (getD choices c 0) (st .rows); results = withResult (st .results) j (getD choices c 0) 1 }
+  directLook c j q st (Certain outcome) = record { rows = st .rows; results = withResult (st .results) j outcome 0 }
 
-  -- an operation done on the rows, j measurements having come before it
-  unfoldable pub directKind : ℕ → State → Operation → Kind → State
-  directKind j st op gate = record { rows = gateRows d n op (st .rows); results = st .results }
-  directKind j st op (measures q) = directLook j q st (look d n (st .rows) q)
+  -- A reset of qudit q: it is measured, consuming choice c but giving no result, and then X to the minus outcome is applied.
+  unfoldable pub resetRows : (c q : ℕ) → List ℕ → Look → List ℕ
+  resetRows c q t (Free k) = errorRows d n (minusX d q (getD choices c 0)) (collapse d n q k (getD choices c 0) t)
+  resetRows c q t (Certain outcome) = errorRows d n (minusX d q outcome) t
 
-  abbrev pub directOperation : ℕ → State → Operation → State
-  directOperation j st op = directKind j st op (kind op)
+  -- An operation done on the rows, c choices having been taken and j results given before it. A correction of qudit t applies X to the
+  -- minus result of measurement m.
+  unfoldable pub directKind : (c j : ℕ) → State → Operation → Kind → State
+  directKind c j st op gate = record { rows = gateRows d n op (st .rows); results = st .results }
+  directKind c j st op (measures q) = directLook c j q st (look d n (st .rows) q)
+  directKind c j st op (resets q) = record { rows = resetRows c q (st .rows) (look d n (st .rows) q); results = st .results }
+  directKind c j st op (corrects t m) =
+      record { rows = errorRows d n (minusX d t (resultOf d (st .results) m)) (st .rows); results = st .results }
+
+  abbrev pub directOperation : (c j : ℕ) → State → Operation → State
+  directOperation c j st op = directKind c j st op (kind op)
 
 module _ (d n : ℕ) (ops : List Operation) (errors : List WeylError) (choices : List ℕ) where
   -- the errors of place k
@@ -51,7 +60,7 @@ module _ (d n : ℕ) (ops : List Operation) (errors : List WeylError) (choices :
 
   -- Before operation k, each error of place k is applied to every row; then operation k is done on the rows.
   unfoldable pub directStep : ℕ → State → State
-  directStep k st = directOperation d n choices (measured ops k) (directErrors k st) (opAt ops k)
+  directStep k st = directOperation d n choices (chosen ops k) (measured ops k) (directErrors k st) (opAt ops k)
 
   -- Errors placed after all operations come last.
   unfoldable pub directRun : State → State

@@ -1,24 +1,25 @@
 -- The frame, and the frame run.
 use mathlib.Core.Path.{_≡_}
 use mathlib.Core.Bool.{Bool, cond}
-use mathlib.Core.List.{List, _++_}
+use mathlib.Core.List.{List, [], _∷_, _++_}
 use Prim.Native.Nat.{ℕ, zero, suc, _+_, _*_, _%_}
 use lib.Dec.{eqb}
 use lib.ListN.{length, getD, drop, replicate}
+use Rattle.modular.specs.Modular.{neg}
 use Rattle.row.specs.Row.{Powers, xOf, phaseOf, tab, pairing}
 use Rattle.search.specs.Search.{all}
 use Rattle.tableau.specs.Tableau.{row, onRows, every}
 use Rattle.operation.specs.declared.Operation.{Operation}
 use Rattle.operation.specs.declared.WeylError.{WeylError}
-use Rattle.operation.specs.Gate.{withPhase, gateRows, gateFrame}
-use Rattle.operation.specs.Error.{errorFrame}
-use Rattle.circuit.specs.Circuit.{opAt, errAt, Kind, gate, measures, kind, measured}
+use Rattle.operation.specs.Gate.{withX, withPhase, gateRows, gateFrame}
+use Rattle.operation.specs.Error.{errorRows, errorFrame, minusX}
+use Rattle.circuit.specs.Circuit.{opAt, errAt, Kind, gate, measures, resets, corrects, kind, measured, chosen}
 use Rattle.measurement.specs.declared.Look.{Look}
 use Rattle.measurement.specs.declared.Look.the-variants.{Free, Certain}
 use Rattle.measurement.specs.Look.{look}
 use Rattle.measurement.specs.Collapse.{collapse}
 use Rattle.runs.specs.Run.{stepsFrom, withResult}
-use Rattle.runs.specs.Direct.{State}
+use Rattle.runs.specs.Direct.{State, resetRows}
 
 -- a frame of n qudits: X powers, then Z powers, all below d
 pub record Frame (d n : ℕ) (F : List ℕ) : Type 0 where
@@ -34,6 +35,18 @@ unfoldable pub errorsOnFrame : ℕ → ℕ → List WeylError → ℕ → List �
 errorsOnFrame d n errors k F zero = F
 errorsOnFrame d n errors k F (suc j) =
     cond (eqb (errAt errors j .place) k) (errorFrame d n (errAt errors j) (errorsOnFrame d n errors k F j)) (errorsOnFrame d n errors k F j)
+
+-- A frame loses its X power on a reset qudit and keeps its Z power.
+abbrev pub resetFrame : (q : ℕ) → List ℕ → List ℕ
+resetFrame q F = withX q 0 F
+
+-- At a correction the target's X power loses the shift which that measurement had.
+abbrev pub correctFrame : (d t shift : ℕ) → List ℕ → List ℕ
+correctFrame d t shift F = withX t ((xOf F t + neg d shift) % d) F
+
+-- the clean result of measurement m: the reported one without its shift
+abbrev pub cleanResult : (d : ℕ) (results shifts : List ℕ) (m : ℕ) → ℕ
+cleanResult d results shifts m = (getD results (2 * m) 0 + neg d (getD shifts m 0)) % d
 
 -- Each row's shift is the pairing of the frame with that row, and is added to its phase.
 abbrev pub shiftAt : ℕ → ℕ → List ℕ → List ℕ → ℕ → ℕ
@@ -52,10 +65,12 @@ noShift d n F t i = eqb (shiftAt d n F t (n + i)) 0
 unfoldable pub verdictOf : ℕ → ℕ → List ℕ → List ℕ → ℕ
 verdictOf d n F t = cond (all (noShift d n F t) n) 0 1
 
+-- rows, results and frame, and the shift of each result so far
 pub record FrameState : Type 0 where
   pub rows : List ℕ
   pub results : List ℕ
   pub frame : List ℕ
+  pub shifts : List ℕ
 
 -- what the frame run leaves: rows and results, the lent buffers of shifts and frame, and the verdict
 pub record FrameEnd : Type 0 where
@@ -66,33 +81,55 @@ pub record FrameEnd : Type 0 where
   pub verdict : ℕ
 
 module _ (d n : ℕ) (choices : List ℕ) where
-  -- The reported result is the clean one plus the frame's X power on q; the frame stays.
-  unfoldable pub frameLook : ℕ → ℕ → FrameState → Look → FrameState
-  frameLook j q st (Free k) =
+  -- The reported result is the clean one plus the frame's X power on q, which is its shift; the frame stays.
+  unfoldable pub frameLook : (c j q : ℕ) → FrameState → Look → FrameState
+  frameLook c j q st (Free k) =
       record {
-        rows = collapse d n q k (getD choices j 0) (st .rows);
-        results = withResult (st .results) j ((getD choices j 0 + xOf (st .frame) q) % d) 1;
+        rows = collapse d n q k (getD choices c 0) (st .rows);
+        results = withResult (st .results) j ((getD choices c 0 + xOf (st .frame) q) % d) 1;
         frame = st .frame;
+        shifts = st .shifts ++ (xOf (st .frame) q ∷ []);
       }
-  frameLook j q st (Certain outcome) =
-      record { rows = st .rows; results = withResult (st .results) j ((outcome + xOf (st .frame) q) % d) 0; frame = st .frame }
+  frameLook c j q st (Certain outcome) =
+      record {
+        rows = st .rows;
+        results = withResult (st .results) j ((outcome + xOf (st .frame) q) % d) 0;
+        frame = st .frame;
+        shifts = st .shifts ++ (xOf (st .frame) q ∷ []);
+      }
 
-  -- A gate is done on the rows and on the frame, a measurement on the rows alone.
-  unfoldable pub frameKind : ℕ → FrameState → Operation → Kind → FrameState
-  frameKind j st op gate = record { rows = gateRows d n op (st .rows); results = st .results; frame = gateFrame d n op (st .frame) }
-  frameKind j st op (measures q) = frameLook j q st (look d n (st .rows) q)
+  -- A gate is done on the rows and on the frame, a measurement on the rows alone. A reset is done on the rows as in the direct run. In a
+  -- frame run the tableau is corrected by the clean result.
+  unfoldable pub frameKind : (c j : ℕ) → FrameState → Operation → Kind → FrameState
+  frameKind c j st op gate =
+      record { rows = gateRows d n op (st .rows); results = st .results; frame = gateFrame d n op (st .frame); shifts = st .shifts }
+  frameKind c j st op (measures q) = frameLook c j q st (look d n (st .rows) q)
+  frameKind c j st op (resets q) =
+      record {
+        rows = resetRows d n choices c q (st .rows) (look d n (st .rows) q);
+        results = st .results;
+        frame = resetFrame q (st .frame);
+        shifts = st .shifts;
+      }
+  frameKind c j st op (corrects t m) =
+      record {
+        rows = errorRows d n (minusX d t (cleanResult d (st .results) (st .shifts) m)) (st .rows);
+        results = st .results;
+        frame = correctFrame d t (getD (st .shifts) m 0) (st .frame);
+        shifts = st .shifts;
+      }
 
-  abbrev pub frameOperation : ℕ → FrameState → Operation → FrameState
-  frameOperation j st op = frameKind j st op (kind op)
+  abbrev pub frameOperation : (c j : ℕ) → FrameState → Operation → FrameState
+  frameOperation c j st op = frameKind c j st op (kind op)
 
 module _ (d n : ℕ) (ops : List Operation) (errors : List WeylError) (choices : List ℕ) where
   -- Errors are taken at the same moments, but change only the frame.
   unfoldable pub frameErrors : ℕ → FrameState → FrameState
   frameErrors k st =
-      record { rows = st .rows; results = st .results; frame = errorsOnFrame d n errors k (st .frame) (length errors) }
+      record { rows = st .rows; results = st .results; frame = errorsOnFrame d n errors k (st .frame) (length errors); shifts = st .shifts }
 
   unfoldable pub frameStep : ℕ → FrameState → FrameState
-  frameStep k st = frameOperation d n choices (measured ops k) (frameErrors k st) (opAt ops k)
+  frameStep k st = frameOperation d n choices (chosen ops k) (measured ops k) (frameErrors k st) (opAt ops k)
 
   -- all operations, then the errors after them
   unfoldable pub frameSteps : FrameState → FrameState
@@ -111,7 +148,8 @@ module _ (d n : ℕ) (ops : List Operation) (errors : List WeylError) (choices :
 
   -- from any frame F; the frame run begins with no powers
   unfoldable pub frameRunFrom : List ℕ → State → List ℕ → List ℕ → FrameEnd
-  frameRunFrom F st shifts frame = frameLeaves shifts frame (frameSteps (record { rows = st .rows; results = st .results; frame = F }))
+  frameRunFrom F st shifts frame =
+      frameLeaves shifts frame (frameSteps (record { rows = st .rows; results = st .results; frame = F; shifts = [] }))
 
   unfoldable pub frameRun : State → List ℕ → List ℕ → FrameEnd
   frameRun st shifts frame = frameRunFrom (noFrame n) st shifts frame

@@ -1,7 +1,8 @@
 // The two runs over decoded lists, and where a run stands.
 
-// The next error entry, and how many measurements were made.
+// The next error entry, how many measurements were made, and how many choices were taken.
 pub struct Position {
     pub entry: usize,
     pub measurements: usize,
+    pub choices: usize,
 }

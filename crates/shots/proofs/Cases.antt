@@ -16,9 +16,9 @@ use Rattle.validity.specs.Validity.{rowValid, valid}
 use Rattle.saved_tableau.specs.Saved.{selfValid, validFor}
 use Rattle.measurement.specs.Look.{pivotOf, combination, weighted, look}
 use Rattle.measurement.specs.Collapse.{collapseRow, collapse}
-use Rattle.circuit.specs.Circuit.{measured}
+use Rattle.circuit.specs.Circuit.{measured, chosen}
 use Rattle.book_entries.specs.Entry.{decoded, errorAt}
-use Rattle.book_body.specs.Body.{badOperation, measurements, goodError, badError, badChoice, readBodies}
+use Rattle.book_body.specs.Body.{badOperation, measurements, choiceTakers, goodError, badError, badChoice, readBodies}
 use Rattle.book.specs.Book.{headerFits, entryFits, badContents, readBook, bodyOf}
 use Rattle.book.specs.Decoded.{operationsOf, errorsOf}
 use Rattle.runs.specs.Run.{stepsFrom, withResult}
@@ -53,7 +53,7 @@ pub returned :
       out = 0 ∷ 0 ∷ 0 ∷ 2 ∷ 1 ∷ 1 ∷ 0 ∷ 0 ∷ 0 ∷ 1 ∷ 1 ∷ 0 ∷ 0 ∷ 1 ∷ 1 ∷ 7 ∷ [];
     })
     × (trayBook book (0 ∷ 0 ∷ []) t (sevens 1) ≡ record { number = 0; place = 0; shifted = 0; out = 7 ∷ [] })
-unfolding listed inverse powerOf all firstNot tab rowOf dot product power pairing zWith scalar part put eachRow gatePowers gatePhase gateRow errorFrame rowValid valid selfValid validFor pivotOf combination weighted look collapseRow collapse measured decoded errorAt badOperation measurements goodError badError badChoice readBodies headerFits entryFits badContents readBook bodyOf operationsOf errorsOf stepsFrom withResult errorsOnFrame shiftRow verdictOf frameLook frameKind frameErrors frameStep frameSteps frameLeaves frameRunFrom frameRun startOf tableFits badShot shotRow cleanAmong shiftedAmong trayBuffersFit trayByAnswer trayBook
+unfolding listed inverse powerOf all firstNot tab rowOf dot product power pairing zWith scalar part put eachRow gatePowers gatePhase gateRow errorFrame rowValid valid selfValid validFor pivotOf combination weighted look collapseRow collapse measured chosen decoded errorAt badOperation measurements choiceTakers goodError badError badChoice readBodies headerFits entryFits badContents readBook bodyOf operationsOf errorsOf stepsFrom withResult errorsOnFrame shiftRow verdictOf frameLook frameKind frameErrors frameStep frameSteps frameLeaves frameRunFrom frameRun startOf tableFits badShot shotRow cleanAmong shiftedAmong trayBuffersFit trayByAnswer trayBook
 returned = (refl, refl)
 
 -- a tray that is refused leaves a buffer of so many sevens
@@ -73,5 +73,5 @@ pub refusals :
     × Refuses tray (set t 0 5) 15 9 0
     × Refuses tray (set t 1 2) 15 9 0
     × Refuses tray (set t 2 2) 15 9 0
-unfolding listed all firstNot tab dot pairing part eachRow rowValid valid selfValid validFor measured decoded errorAt badOperation measurements goodError badError badChoice readBodies headerFits entryFits badContents readBook bodyOf operationsOf startOf tableFits badShot trayBuffersFit trayByAnswer trayBook
+unfolding listed all firstNot tab dot pairing part eachRow rowValid valid selfValid validFor measured decoded errorAt badOperation measurements choiceTakers goodError badError badChoice readBodies headerFits entryFits badContents readBook bodyOf operationsOf startOf tableFits badShot trayBuffersFit trayByAnswer trayBook
 refusals = (refl, refl, refl, refl, refl, refl)

@@ -4,7 +4,7 @@ use mathlib.Core.Path.{_≡_, refl, sym, _∙_}
 use mathlib.Core.Bool.{true}
 use mathlib.Core.List.{List, [], _∷_}
 use Prim.Native.Nat.{ℕ, _*_, _<_}
-use native.Mathlib.Nat.{le-refl, add-zero, mod-eq-of-lt}
+use native.Mathlib.Nat.{add-zero, mod-eq-of-lt}
 use native.Mathlib.Omega.{arith}
 use lib.ListN.{length, getD}
 use lib.Seq.{ext-getD}
@@ -29,13 +29,13 @@ module _ (d n : ℕ) (dim : Dimension d) (ops : List Operation) (good : (k : ℕ
   total = measured ops (length ops)
 
   abbrev shifts : List ℕ
-  shifts = resultShifts d n ops [] 0 (noFrame n) (length ops)
+  shifts = resultShifts d n ops [] (noFrame n)
 
   no-shift : (b : ℕ) → b < 2 * total → getD (clean .results) b 0 ≡ shiftedByteAt d (clean .results) shifts b
   no-shift =
       shifted-byte d shifts (clean .results) total (λ b. getD (clean .results) b 0)
       (λ j l.
-      rw (shifts-none d n dim ops good (length ops) (le-refl (length ops)) j, add-zero (getD (clean .results) (2 * j) 0))
+      rw (shifts-none d n dim ops good j, add-zero (getD (clean .results) (2 * j) 0))
       (sym (mod-eq-of-lt (below j l))))
       (λ j l. refl)
 

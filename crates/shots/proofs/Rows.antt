@@ -14,7 +14,7 @@ use Rattle.circuit.specs.Circuit.{measured}
 use Rattle.book.specs.Decoded.{errorsOf}
 use Rattle.tray.specs.Tray.{shotBody}
 use Rattle.shots.specs.Shots.{shotBytes, runOf, shotRow, filledBy, cleanAmong, shiftedAmong}
-use Rattle.shots.proofs.Clean.{frame-results}
+use Rattle.runs.proofs.Results.{frame-results}
 
 module _ (d n : ℕ) (ops : List Operation) (choices t tray : List ℕ) where
   abbrev total : ℕ
@@ -23,7 +23,7 @@ module _ (d n : ℕ) (ops : List Operation) (choices t tray : List ℕ) where
   shot-length : (i : ℕ) → length (shotBytes (runOf d n ops choices t tray i)) ≡ 1 + 2 * total
   shot-length i =
       let size : length {A = ℕ} (replicate (2 * total) 0) ≡ 2 * total = length-replicate (2 * total) 0 in
-      let e = frame-results d n ops (errorsOf (shotBody tray i)) choices (record { rows = t; results = replicate (2 * total) 0 }) [] [] (omega arith) in
+      let e = frame-results d n ops (errorsOf (shotBody tray i)) choices (record { rows = t; results = replicate (2 * total) 0 }) [] [] in
       omega (arith, e, size)
 
   pub keeps : Keeps (1 + 2 * total) (shotRow d n ops choices t tray)

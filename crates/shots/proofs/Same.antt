@@ -14,7 +14,7 @@ use Rattle.row.specs.Row.{tab, pairing}
 use Rattle.row.proofs.Fill.{tab-length, tab-get}
 use Rattle.operation.specs.declared.Operation.{Operation}
 use Rattle.operation.specs.declared.WeylError.{WeylError}
-use Rattle.circuit.specs.Circuit.{measured}
+use Rattle.circuit.specs.Circuit.{opAt, corrects, kind, measured}
 use Rattle.runs.specs.Direct.{State}
 use Rattle.runs.specs.Frame.{noFrame, noShift, verdictOf, frameRun}
 use Rattle.runs.specs.Raised.{finalFrame, resultShifts}
@@ -42,23 +42,24 @@ unfolding cleanPlus
 plus-same d n ops A B errors h =
     ap₂ _∷_ (sym (verdict-same d n (finalFrame d n ops errors (noFrame n)) (A .rows) (B .rows) (h .rows)))
     (tab-same _ _ (2 * measured ops (length ops))
-    (λ b l. ap (λ (x : ℕ). cond (eqb (b % 2) 0) ((x + getD (resultShifts d n ops errors 0 (noFrame n) (length ops)) (b / 2) 0) % d) x) (shifted-bytes (h .results) b l)))
+    (λ b l. ap (λ (x : ℕ). cond (eqb (b % 2) 0) ((x + getD (resultShifts d n ops errors (noFrame n)) (b / 2) 0) % d) x) (shifted-bytes (h .results) b l)))
 
 -- a shot is the frame run in any lent buffers that are long enough
-pub shot-any : (d n : ℕ) → 1 < d → (ops : List Operation) (errors : List WeylError) (choices t results shifts frame : List ℕ)
+pub shot-any : (d n : ℕ) → 1 < d → (ops : List Operation) → ((k t m : ℕ) → k < length ops → kind (opAt ops k) ≡ corrects t m → m < measured ops k)
+    → (errors : List WeylError) (choices t results shifts frame : List ℕ)
     → 2 * n * (2 * n + 1) ≤ length t
     → 2 * measured ops (length ops) ≤ length results
     → let end = frameRun d n ops errors choices (record { rows = t; results = results }) shifts frame in
     shotBytes (shotRun d n ops choices t errors) ≡ end .verdict ∷ take (2 * measured ops (length ops)) (end .results)
-shot-any d n low ops errors choices t results shifts frame room long =
+shot-any d n low ops names errors choices t results shifts frame room long =
     let total = measured ops (length ops) in
     let lent : State = record { rows = t; results = results } in
     let blank : List ℕ = replicate (2 * total) 0 in
     let size : length blank ≡ 2 * total = length-replicate (2 * total) 0 in
     let own : 2 * total ≤ length blank = omega arith in
     let twins =
-    twin-run d n low ops [] choices {A = lent} {B = record { rows = t; results = blank }}
+    twin-run d n low ops [] choices names {A = lent} {B = record { rows = t; results = blank }}
     (record { rows = window-of n room room (λ i l. refl); results = related-none Equal total long own }) in
-    clean-serves d n ops choices t errors
+    clean-serves d n ops choices t errors (omega arith)
     ∙ plus-same d n ops _ _ errors twins
-    ∙ sym (shifted-first d n ops errors choices lent shifts frame long)
+    ∙ sym (shifted-first d n ops errors choices lent shifts frame (omega arith) long)

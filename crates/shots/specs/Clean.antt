@@ -1,7 +1,7 @@
 -- One clean run serves every shot: a shot is the clean run with its carried frame added.
 use mathlib.Core.Path.{_≡_}
 use mathlib.Core.List.{List, [], _∷_}
-use Prim.Native.Nat.{ℕ, _*_}
+use Prim.Native.Nat.{ℕ, _*_, _<_}
 use lib.ListN.{length, replicate}
 use Rattle.row.specs.Row.{tab}
 use Rattle.operation.specs.declared.Operation.{Operation}
@@ -17,12 +17,12 @@ use Rattle.shots.specs.Shots.{shotBytes, shotRun}
 unfoldable pub cleanPlus : ℕ → ℕ → List Operation → State → List WeylError → List ℕ
 cleanPlus d n ops clean errors =
     verdictOf d n (finalFrame d n ops errors (noFrame n)) (clean .rows)
-    ∷ tab (shiftedByteAt d (clean .results) (resultShifts d n ops errors 0 (noFrame n) (length ops))) (2 * measured ops (length ops))
+    ∷ tab (shiftedByteAt d (clean .results) (resultShifts d n ops errors (noFrame n))) (2 * measured ops (length ops))
 
 -- the clean run
 abbrev pub cleanRun : ℕ → ℕ → List Operation → List ℕ → List ℕ → State
 cleanRun d n ops choices t = directRun d n ops [] choices (record { rows = t; results = replicate (2 * measured ops (length ops)) 0 })
 
 abbrev pub CleanServes : Type 0
-CleanServes = (d n : ℕ) (ops : List Operation) (choices t : List ℕ) (errors : List WeylError)
+CleanServes = (d n : ℕ) (ops : List Operation) (choices t : List ℕ) (errors : List WeylError) → 0 < d
     → shotBytes (shotRun d n ops choices t errors) ≡ cleanPlus d n ops (cleanRun d n ops choices t) errors

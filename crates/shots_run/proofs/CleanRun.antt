@@ -10,7 +10,7 @@ use Rattle.modular.proofs.Listed.{dimension}
 use Rattle.tableau.specs.Tableau.{part}
 use Rattle.tableau.proofs.Parts.{part-length, part-at}
 use Rattle.operation.specs.declared.Operation.{Operation}
-use Rattle.circuit.specs.Circuit.{opAt, Kind, gate, measures, kind, tallyKind, measured, Accepted}
+use Rattle.circuit.specs.Circuit.{opAt, Kind, gate, measures, resets, corrects, kind, tallyKind, choiceKind, measured, measurementCount, chosen, Accepted}
 use Rattle.validity.specs.Validity.{Valid}
 use Rattle.validity.proofs.Exactly.{valid-tableau}
 use Rattle.measurement.specs.declared.Look.{Look}
@@ -20,7 +20,7 @@ use Rattle.measure_step.proofs.Fits.{look-fits}
 use Rattle.book.specs.Decoded.{operationsOf}
 use Rattle.runs.specs.Run.{stepsFrom}
 use Rattle.runs.specs.Direct.{State, directLook, directKind, directErrors, directStep, directRun}
-use Rattle.runs.proofs.Results.{measured-before, direct-results}
+use Rattle.runs.proofs.Results.{measured-before, measured-chosen, direct-results}
 use Rattle.run_laws.proofs.Books.{choice-in}
 use Rattle.run_laws.proofs.Results.{ResultsRelated, related-none, related-more}
 use Rattle.run_laws.proofs.Window.{Window, window-of, valid-window}
@@ -41,19 +41,21 @@ module _ (d n : ℕ) (low : 0 < d) (ops : List Operation) (choices : List ℕ) (
 
   low-kind : (k : ℕ) → k < length ops → (t out : List ℕ) → ResultsRelated (Low d) total (measured ops k) out out → (x : Kind) → kind (opAt ops k) ≡ x
       → ResultsRelated (Low d) total (measured ops k + tallyKind x)
-      (directKind d n choices (measured ops k) (record { rows = t; results = out }) (opAt ops k) x .results)
-      (directKind d n choices (measured ops k) (record { rows = t; results = out }) (opAt ops k) x .results)
+      (directKind d n choices (chosen ops k) (measured ops k) (record { rows = t; results = out }) (opAt ops k) x .results)
+      (directKind d n choices (chosen ops k) (measured ops k) (record { rows = t; results = out }) (opAt ops k) x .results)
   unfolding directKind directLook
   low-kind k l t out a gate e = let q : measured ops k + 0 ≡ measured ops k = omega arith in rw q a
+  low-kind k l t out a (resets q) e = let z : measured ops k + 0 ≡ measured ops k = omega arith in rw z a
+  low-kind k l t out a (corrects q m) e = let z : measured ops k + 0 ≡ measured ops k = omega arith in rw z a
   low-kind k l t out a (measures q) e = by (look d n t q) refl
     where
       j : ℕ
       j = measured ops k
 
       by : (x : Look) → look d n t q ≡ x
-          → ResultsRelated (Low d) total (j + 1) (directLook d n choices j q (record { rows = t; results = out }) x .results)
-          (directLook d n choices j q (record { rows = t; results = out }) x .results)
-      by (Free i) y = related-more (Low d) total j _ _ 1 (measured-before ops k (length ops) q l e) (choice-in ac k q l e) a
+          → ResultsRelated (Low d) total (j + 1) (directLook d n choices (chosen ops k) j q (record { rows = t; results = out }) x .results)
+          (directLook d n choices (chosen ops k) j q (record { rows = t; results = out }) x .results)
+      by (Free i) y = related-more (Low d) total j _ _ 1 (measured-before ops k (length ops) q l e) (choice-in ac k l (ap choiceKind e)) a
       by (Certain outcome) y = related-more (Low d) total j _ _ 0 (measured-before ops k (length ops) q l e) (look-fits d n t q low y) a
 
   low-step : (k : ℕ) → k < length ops → (A : State) → ResultsRelated (Low d) total (measured ops k) (A .results) (A .results)
@@ -90,13 +92,16 @@ module _ {d n : ℕ} {tray t ops choices : List ℕ} (h : Ready d n tray t ops c
   pub copied-valid : Valid d n (part 0 (2 * n * (2 * n + 1)) t)
   copied-valid = valid-window n (window n t (h .tableau .room)) (h .tableau)
 
+  -- each measurement takes a choice
+  pub few-measured : measurementCount (operationsOf d n ops) ≤ length choices
+  few-measured = omega (arith, measured-chosen (operationsOf d n ops) (length (operationsOf d n ops)), h .circuit .one-each)
+
   abbrev clean : State
   clean = copyRun d n ops choices t
 
-  clean-shots : CleanShots d n ops (clean .results) (clean .rows) (1 + 2 * length choices)
+  clean-shots : CleanShots d n ops (clean .results) (clean .rows) (1 + 2 * measurementCount (operationsOf d n ops))
   clean-shots =
       let dim = dimension d (h .dimension) in
-      let one = h .circuit .one-each in
       let low = low-run d n (omega (arith, dim .low)) (operationsOf d n ops) choices (h .circuit) (record { rows = part 0 (2 * n * (2 * n + 1)) t; results = blank (2 * measured (operationsOf d n ops) (length (operationsOf d n ops))) }) (omega (arith, blank-length (2 * measured (operationsOf d n ops) (length (operationsOf d n ops))))) in
       let exact = direct-results d n (operationsOf d n ops) [] choices (record { rows = part 0 (2 * n * (2 * n + 1)) t; results = blank (2 * measured (operationsOf d n ops) (length (operationsOf d n ops))) }) ∙ blank-length (2 * measured (operationsOf d n ops) (length (operationsOf d n ops))) in
       record {
@@ -105,13 +110,14 @@ module _ {d n : ℕ} {tray t ops choices : List ℕ} (h : Ready d n tray t ops c
           qudits = h .qudits;
           short = h .few;
           operations = h .circuit .operations;
+          names = h .circuit .names;
           room = low .room;
           below = low .outcome;
         };
         tableau = valid-tableau d n _ (run-keeps-valid d n dim (operationsOf d n ops) [] choices (h .circuit) _ copied-valid);
         exact = exact;
-        width = omega (arith, one);
-        narrow = omega (arith, h .short);
+        width = refl;
+        narrow = omega (arith, h .short, few-measured);
       }
 
   pub loaded : TrayErrors d n tray
@@ -119,19 +125,19 @@ module _ {d n : ℕ} {tray t ops choices : List ℕ} (h : Ready d n tray t ops c
 
   -- what the copy and its results hold after the clean run
   module _ (copy₀ copy copy' results results' : List ℕ) (size : length copy₀ ≡ 2 * n * (2 * n + 1)) (e : copy ≡ take (length copy₀) t)
-      (f : results ≡ blank (2 * length choices))
+      (f : results ≡ blank (2 * measurementCount (operationsOf d n ops)))
       (g : record { rows = copy'; results = results' } ≡ directRun d n (operationsOf d n ops) [] choices (record { rows = copy; results = results })) where
     begins : _≡_ {A = State} (record { rows = copy; results = results })
         (record { rows = part 0 (2 * n * (2 * n + 1)) t; results = replicate (2 * measured (operationsOf d n ops) (length (operationsOf d n ops))) 0 })
     unfolding part
     begins =
         ap₂ (λ (a b : List ℕ). let st : State = record { rows = a; results = b } in st) (e ∙ ap (λ (x : ℕ). take x t) size)
-        (f ∙ ap (λ (x : ℕ). blank (2 * x)) (h .circuit .one-each))
+        f
 
     is-clean : _≡_ {A = State} (record { rows = copy'; results = results' }) clean
     is-clean = g ∙ ap (λ (x : State). directRun d n (operationsOf d n ops) [] choices x) begins
 
-    pub run-shots : CleanShots d n ops results' copy' (1 + 2 * length choices)
+    pub run-shots : CleanShots d n ops results' copy' (1 + 2 * measurementCount (operationsOf d n ops))
     run-shots =
         let a : copy' ≡ clean .rows = ap (λ (x : State). x .rows) is-clean in
         let b : results' ≡ clean .results = ap (λ (x : State). x .results) is-clean in

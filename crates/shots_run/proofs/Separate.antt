@@ -1,6 +1,6 @@
 -- What a tray run fills and counts is what separate frame runs from the lent tableau would.
 -- Assumes nothing.
-use mathlib.Core.Path.{_≡_, refl, sym, ap, ap₂, subst, _∙_}
+use mathlib.Core.Path.{_≡_, refl, sym, ap, ap₂, _∙_}
 use mathlib.Core.Bool.{cond}
 use mathlib.Core.List.{List, []}
 use Prim.Native.Nat.{ℕ, zero, suc, _+_, _-_, _*_, _≤_}
@@ -17,6 +17,7 @@ use Rattle.tray.specs.Tray.{shotsIn, shotBody}
 use Rattle.runs.specs.Direct.{State}
 use Rattle.runs.specs.Frame.{noFrame}
 use Rattle.runs.specs.Raised.{finalFrame}
+use Rattle.run_laws.proofs.Books.{named-in}
 use Rattle.run_laws.proofs.Results.{related-none, Equal}
 use Rattle.run_laws.proofs.Buffers.{Twin, twin-run}
 use Rattle.shots.specs.Shots.{shotBytes, runOf, shotRow, filledBy, shiftedAmong}
@@ -46,13 +47,13 @@ module _ {d n : ℕ} {tray t ops choices : List ℕ} (h : Ready d n tray t ops c
   twins =
       let dim = dimension d (h .dimension) in
       let r : 2 * total ≤ length (blank (2 * total)) = omega (arith, blank-length (2 * total)) in
-      twin-run d n (omega (arith, dim .low)) list [] choices (record { rows = window n t (h .tableau .room); results = related-none Equal total r r })
+      twin-run d n (omega (arith, dim .low)) list [] choices (named-in (h .circuit)) (record { rows = window n t (h .tableau .room); results = related-none Equal total r r })
 
   -- a shot by the clean run on the copy is the separate frame run
   shot-is : (i : ℕ) → bytesBy d n list copied (shotErrors tray) i ≡ shotBytes (runOf d n list choices t tray i)
   shot-is i =
       plus-same d n list (cleanRun d n list choices t) copied (errorsOf (shotBody tray i)) twins
-      ∙ sym (clean-serves d n list choices t (errorsOf (shotBody tray i)))
+      ∙ sym (clean-serves d n list choices t (errorsOf (shotBody tray i)) (omega (arith, dimension d (h .dimension) .low)))
 
   verdict-is : (i : ℕ) → verdictBy d n list copied (shotErrors tray) i ≡ runOf d n list choices t tray i .verdict
   unfolding cleanPlus
@@ -92,13 +93,8 @@ module _ {d n : ℕ} {tray t ops choices : List ℕ} (h : Ready d n tray t ops c
           ∙ f .after (shotsIn tray * (1 + 2 * total) + i) (omega arith)
           ∙ sym (getD-drop (shotsIn tray * (1 + 2 * total)) out i 0))
 
-  -- both, with the number of choices
-  pub results-by : {r : ℕ} {out out' : List ℕ} → shotsIn tray * (1 + 2 * length choices) ≤ length out
+  -- both
+  pub results-by : {r : ℕ} {out out' : List ℕ} → shotsIn tray * (1 + 2 * total) ≤ length out
       → AllShotsFilled d n ops choices t tray out out' × (r ≡ allShotsShifted d n ops choices t tray)
       → (out' ≡ filledBy d n list choices t tray out (shotsIn tray)) × (r ≡ shiftedAmong d n list choices t tray (shotsIn tray))
-  results-by {r} {out} {out'} room f =
-      let one-each = h .circuit .one-each in (
-        filled-is (subst (λ (x : ℕ). shotsIn tray * (1 + 2 * x) ≤ length out) one-each room)
-            (subst (λ (x : ℕ). ShotsFilled d n list copied (shotErrors tray) (1 + 2 * x) 0 (shotsIn tray) out out') one-each (f .0)),
-        f .1 ∙ shifted-is (shotsIn tray),
-      )
+  results-by room f = (filled-is room (f .0), f .1 ∙ shifted-is (shotsIn tray))

@@ -20,6 +20,7 @@ use Rattle.book.proofs.Contents.{all-passed, ContentsLaid, laid, part-length}
 use Rattle.book.proofs.GoodErrors.{errors-in-order, places}
 use Rattle.book.proofs.Meaning.{accepted-means}
 use Rattle.book.proofs.Handed.{Handed}
+use Rattle.runs.proofs.Results.{measured-chosen}
 use Rattle.run_laws.proofs.Books.{without-errors}
 use Rattle.tray.specs.Tray.{shotsIn, shotBody, badShot, tableFits}
 use Rattle.tray.proofs.Table.{table-says, table-inside, body-inside}
@@ -29,14 +30,17 @@ use Rattle.shots_run.specs.Ready.{Ready}
 short : (length size most : ℕ) → lengthFits length size most ≡ true → length ≤ size * most
 short length size most e = leb-true _ _ (both (eqb (length % size) 0) _ e .1)
 
-module _ (s : List ℕ) {d n choices : ℕ} (g : Handed s d n choices) where
+module _ (s : List ℕ) {d n measurements : ℕ} (g : Handed s d n measurements) where
   lies : ContentsLaid s
-  lies = laid s (all-passed s (no-refusal d n (g .operations) (g .errors) choices) (g .reads) .contents)
+  lies = laid s (all-passed s (no-refusal d n (g .operations) (g .errors) (g .choices)) (g .reads) .contents)
 
-  pub few-choices : length (partOf s 16) ≤ 4096
-  few-choices = omega (arith, part-length s 16 (g .bodies .third), short (lengthOf s 16) 1 4096 (lies .third .whole))
+  -- each measurement takes a choice
+  pub few-measured : measurements ≤ 4096
+  few-measured =
+      let list = operationsOf d n (partOf s 4) in
+      omega (arith, g .counted-part, measured-chosen list (length list), g .lists .one-each, g .few)
 
-  module _ {operations errors : ℕ} (reads : readBook s ≡ accepted d n operations errors choices) (tray : List ℕ) (table : tableFits tray ≡ true) (good : badShot d n operations tray ≡ Nowhere) where
+  module _ {operations errors choices : ℕ} (reads : readBook s ≡ accepted d n operations errors choices) (tray : List ℕ) (table : tableFits tray ≡ true) (good : badShot d n operations tray ≡ Nowhere) where
     shot-accepted : (i : ℕ) → i < shotsIn tray → Accepted d n (operationsOf d n (partOf s 4)) (errorsOf (shotBody tray i)) (partOf s 16)
     shot-accepted i l =
         let m = accepted-means s d n operations errors choices reads in
@@ -44,6 +48,7 @@ module _ (s : List ℕ) {d n choices : ℕ} (g : Handed s d n choices) where
         let one = shot-good d n operations tray good i l in
         record {
           operations = g .lists .operations;
+          names = g .lists .names;
           errors-in-order = errors-in-order d n operations (shotBody tray i) one;
           places = λ j h. rw (← count) (places d n operations (shotBody tray i) one j h);
           one-each = g .lists .one-each;
@@ -58,7 +63,7 @@ module _ (s : List ℕ) {d n choices : ℕ} (g : Handed s d n choices) where
           qudits = g .qudits;
           circuit = without-errors (g .lists);
           few = omega (arith, part-length s 4 (g .bodies .first), short (lengthOf s 4) 4 4096 (lies .first .whole));
-          short = few-choices;
+          short = g .few;
           lies = record { shots = h .few; table = table-inside tray h; inside = body-inside tray h };
           errors = shot-accepted;
           tableau = ok;

@@ -3,6 +3,7 @@ ghost use mathlib.Core.Path.{_≡_};
 ghost use Prim.Native.Nat.{_+_, _*_, _≤_};
 ghost use lib.ListN.{length};
 ghost use Rattle.saved_tableau.specs.Saved.{rowsIn, tableauBytes};
+ghost use Rattle.circuit.specs.Circuit.{measurementCount};
 ghost use Rattle.book.specs.Decoded.{operationsOf};
 ghost use Rattle.tray.specs.Tray.{shotsIn};
 ghost use Rattle.shots.specs.Shots.{filledBy, shiftedAmong, trayBuffersFit, trayBook};
@@ -46,17 +47,19 @@ fn run_shots(
     t: &[u8],
     ops: &[u8],
     choices: &[u8],
+    measurements: usize,
     d: u8,
     n: usize,
 ) -> usize
     requires { ⌜ (tableauBytes n ≤ length (now t))
         × Ready d n (now tray) (rowsIn (now t)) (now ops) (now choices)
-        × (shotsIn (now tray) * (1 + 2 * length (now choices)) ≤ length (now out)) ⌝ }
+        × (measurements ≡ measurementCount (operationsOf d n (now ops)))
+        × (shotsIn (now tray) * (1 + 2 * measurementCount (operationsOf d n (now ops))) ≤ length (now out)) ⌝ }
     ensures { λ r. ⌜ (now (out .exit)
         ≡ filledBy d n (operationsOf d n (now (ops .entry))) (now (choices .entry)) (rowsIn (now (t .entry))) (now (tray .entry)) (now (out .entry)) (shotsIn (now (tray .entry))))
         × (r ≡ shiftedAmong d n (operationsOf d n (now (ops .entry))) (now (choices .entry)) (rowsIn (now (t .entry))) (now (tray .entry)) (shotsIn (now (tray .entry)))) ⌝ }
 {
-    shots_run::run(out, tray, &t[2..], ops, choices, d, n)
+    shots_run::run(out, tray, &t[2..], ops, choices, measurements, d, n)
 }
 
 // The shots of a tray over a book's circuit, from the lent tableau: refusals 1 to 7 of the book, then 11, the tray's 6, 8 and 9.
@@ -80,7 +83,7 @@ pub fn tray_run(book: &[u8], tray: &[u8], t: &[u8], out: &mut [u8]) -> TrayAnswe
         return refused(6, shot);
     }
     let shots = book_entries::word(tray, 0);
-    if !buffers_fit(t, out, numbers.choices, shots, n) {
+    if !buffers_fit(t, out, numbers.measurements, shots, n) {
         return refused(8, 0);
     }
     if !tableau_calls::is_valid_for(t, d, n) {
@@ -92,6 +95,7 @@ pub fn tray_run(book: &[u8], tray: &[u8], t: &[u8], out: &mut [u8]) -> TrayAnswe
         t,
         book::operations(book),
         book::choices(book),
+        numbers.measurements,
         d,
         n,
     );

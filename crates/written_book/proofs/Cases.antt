@@ -7,7 +7,7 @@ use lib.ListN.{replicate, set}
 use Rattle.modular.specs.Dimension.{listed}
 use Rattle.search.specs.Search.{firstNot}
 use Rattle.book_entries.specs.Entry.{decoded, errorAt}
-use Rattle.book_body.specs.Body.{badOperation, measurements, goodError, badError, badChoice, readBodies}
+use Rattle.book_body.specs.Body.{badOperation, measurements, choiceTakers, goodError, badError, badChoice, readBodies}
 use Rattle.book.specs.Book.{headerFits, entryFits, badContents, readBook}
 use Rattle.book.proofs.Cases.{example}
 use Rattle.written_book.specs.Written.{headOf, bookOf}
@@ -40,7 +40,7 @@ Refuses d n ops errors choices size number place =
 pub example-written :
     (writeBook 3 2 ops errors choices (sevens 47) ≡ record { number = 0; place = 45; out = example ++ (7 ∷ 7 ∷ []) })
     × (writeBook 3 2 ops errors choices (sevens 45) ≡ record { number = 0; place = 45; out = example }) × Refuses 3 2 ops errors choices 44 8 0
-unfolding listed firstNot decoded errorAt measurements badOperation goodError badError badChoice readBodies headerFits entryFits badContents readBook headOf bookOf writeByAnswer writeBook
+unfolding listed firstNot decoded errorAt measurements choiceTakers badOperation goodError badError badChoice readBodies headerFits entryFits badContents readBook headOf bookOf writeByAnswer writeBook
 example-written = (refl, refl, refl)
 
 -- 2 before 3, 3 before 4, each 4 before the next, 4 before 5; 259 is no 3
@@ -54,5 +54,5 @@ sizes-refused = (refl, refl, refl, refl, refl)
 pub bodies-refused :
     Refuses 3 2 (set ops 4 7) (set errors 0 5) choices 45 5 1 × Refuses 3 2 ops (set errors 0 5) (2 ∷ []) 45 6 0
     × Refuses 3 2 ops errors (2 ∷ 3 ∷ []) 0 7 1 × Refuses 3 2 ops errors (3 ∷ []) 0 7 1
-unfolding listed firstNot decoded errorAt measurements badOperation goodError badError badChoice readBodies headerFits entryFits badContents readBook headOf bookOf writeByAnswer writeBook
+unfolding listed firstNot decoded errorAt measurements choiceTakers badOperation goodError badError badChoice readBodies headerFits entryFits badContents readBook headOf bookOf writeByAnswer writeBook
 bodies-refused = (refl, refl, refl, refl)

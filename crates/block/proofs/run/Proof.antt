@@ -13,7 +13,7 @@ use Rattle.runs.proofs.Results.{measured-more}
 use Rattle.calendar.specs.LaneErrors.{laneErrors}
 use Rattle.tile.proofs.Tile.{shots-kept}
 use Rattle.block.proofs.Carried.{carried-none}
-use Rattle.block.proofs.Results.{results-none, BlockProgress, next-step, going-end}
+use Rattle.block.proofs.Results.{results-none, BlockProgress, reported, next-step, going-end}
 use Rattle.block.proofs.run.Statement.{statement}
 use Rattle.block.proofs.run.Tie as tie
 
@@ -65,21 +65,26 @@ apply-at-place-requires c κs =
 
 perform-requires : tie.Need-perform-requires Inv-loop μ-loop
 perform-requires c κs =
-    let z = c .before .before .before .before .before .before .before .before .before .before .before in
+    let z = c .before .before .before .before .before .before .before .before .before .before .before .before in
     let t = z .before .before .before .before .before in
     let l = t .before in
-    let g = l .loop .inv in (
-      record { circuit = start l .pre .0; reciprocal = l .before .reciprocal .ensures; inside = t .loop-test .taken; before = g .count },
+    let s = start l in
+    let a = s .args in
+    let list = operationsOf (a .d) (a .n) (now (a .ops)) in
+    let g = l .loop .inv in
+    let more = measured-more list (l .loop .k) (length list) (omega (arith, g .within, op-count (a .d) (a .n) (now (a .ops)))) in (
+      record { circuit = s .pre .0; reciprocal = l .before .reciprocal .ensures; inside = t .loop-test .taken; before = g .count },
       z .apply-at-place .ensures .2,
       g .room .tile-room,
       g .room .marks-room,
       omega (arith, g .recent, g .results .low),
+      reported (g .results) (omega (arith, dimension _ (s .pre .0 .dimension) .low)) (g .room .tile-room) (shots-kept (s .pre .4) (g .out-len)) (omega (arith, g .count, more, s .pre .3)),
     )
 
 flush-full-requires : tie.Need-flush-full-requires Inv-loop μ-loop
 flush-full-requires c κs =
     let p = c .before .before .before .before .before .before .before .before .before .before in
-    let z = p .before .before .before .before .before .before .before .before .before .before .before .before in
+    let z = p .before .before .before .before .before .before .before .before .before .before .before .before .before in
     let t = z .before .before .before .before .before in
     let l = t .before in
     let s = start l in
@@ -87,7 +92,7 @@ flush-full-requires c κs =
     let list = operationsOf (a .d) (a .n) (now (a .ops)) in
     let g = l .loop .inv in
     let e = p .perform .ensures in
-    let x = next-step (s .pre .1 .empty) (t .loop-test .taken) g (z .apply-at-place .ensures .1) (e .0) in
+    let x = next-step (s .pre .0) (s .pre .4 .lanes) (s .pre .1 .empty) (t .loop-test .taken) g (z .apply-at-place .ensures .1) (e .0) in
     let more = measured-more list (l .loop .k + 1) (length list) (omega (arith, op-count (a .d) (a .n) (now (a .ops)), t .loop-test .taken)) in (
       record { tile-room = e .2; spare-room = g .room .spare-room; marks-room = e .3 },
       x .results .low,
@@ -98,18 +103,18 @@ flush-full-requires c κs =
 
 add-k : tie.Need-add-k Inv-loop μ-loop
 add-k c =
-    let t = c .before .before .before .before .before .before .before .before .before .before .before .before .before .before .before .before .before .before .before .before .before .before .before .before .before .before .before .before .before .before .before .before .before .before in
+    let t = c .before .before .before .before .before .before .before .before .before .before .before .before .before .before .before .before .before .before .before .before .before .before .before .before .before .before .before .before .before .before .before .before .before .before .before in
     omega (arith, t .loop-test .taken, start (t .before) .pre .0 .short)
 
 loop-again : tie.Need-loop-again Inv-loop μ-loop
 loop-again c =
     let f = c .before .before .before .before .before .before in
     let p = f .before .before .before .before .before .before .before .before .before .before .before in
-    let z = p .before .before .before .before .before .before .before .before .before .before .before .before in
+    let z = p .before .before .before .before .before .before .before .before .before .before .before .before .before in
     let t = z .before .before .before .before .before in
     let l = t .before in
     let g = l .loop .inv in
-    let x = next-step (start l .pre .1 .empty) (t .loop-test .taken) g (z .apply-at-place .ensures .1) (p .perform .ensures .0) in
+    let x = next-step (start l .pre .0) (start l .pre .4 .lanes) (start l .pre .1 .empty) (t .loop-test .taken) g (z .apply-at-place .ensures .1) (p .perform .ensures .0) in
     let e = f .flush-full .ensures in
     record {
       within = omega (arith, t .loop-test .taken);
@@ -160,7 +165,7 @@ run-spec =
     perform-requires
     flush-full-requires
     add-k
-    (λ c. omega (arith, c .before .before .before .before .before .before .before .before .before .before .before .before .before .before .before .before .before .before .before .before .before .before .before .before .before .before .before .before .before .before .before .before .before .before .loop-test .taken))
+    (λ c. omega (arith, c .before .before .before .before .before .before .before .before .before .before .before .before .before .before .before .before .before .before .before .before .before .before .before .before .before .before .before .before .before .before .before .before .before .before .before .loop-test .taken))
     loop-again
     apply-at-place-requires-2
     (λ c. omega (arith, c .before .before .before .before .before .before .before .before .before .before .before .before .before .before .loop .inv .results .low))

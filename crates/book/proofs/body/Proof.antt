@@ -16,7 +16,7 @@ use Rattle.book.proofs.body.Tie as tie
 
 -- past the reading the book is accepted
 taken : (c : tie.After-enum-told) → readBook (now (c .before .before .before .before .args .book)) ≡ answerOf (Accepted (c .enum-told .given .0 .0))
-taken c = sym (c .before .before .read .ensures) ∙ ap answerOf (c .enum-told .given .1)
+taken c = sym (c .before .before .read .ensures .0) ∙ ap answerOf (c .enum-told .given .1)
 
 passed : (c : tie.After-enum-told) → Passed (now (c .before .before .before .before .args .book)) (answerOf (Accepted (c .enum-told .given .0 .0)))
 passed c = all-passed _ (no-refusal _ _ _ _ _) (taken c)
@@ -43,7 +43,7 @@ slice-aggregate-result c = search needs
 
 returns : tie.Need-returns
 unfolding bodyOf
-returns c = rw (← c .before .before .before .read .ensures, c .before .enum-told2 .given .1)
+returns c = rw (← c .before .before .before .read .ensures .0, c .before .enum-told2 .given .1)
 
 operations-requires : tie.Need-operations-requires
 operations-requires c κs = (lies (c .before) .room, lies (c .before) .first)

@@ -1,6 +1,6 @@
 -- `book::read` meets its contract.
 -- Assumes nothing.
-use mathlib.Core.Path.{_≡_, sym, ap, _∙_}
+use mathlib.Core.Path.{_≡_, refl, sym, ap, _∙_}
 use mathlib.Core.Bool.{true}
 use Prim.Native.Nat.{_≤_}
 use native.Mathlib.Omega.{arith}
@@ -53,7 +53,7 @@ header-fits-requires c κs = search needs
 
 returns : tie.Need-returns
 unfolding readBook
-returns c = rw (sym (c .before .header-fits .ensures) ∙ not-true _ (c .if1 .taken))
+returns c = (rw (sym (c .before .header-fits .ensures) ∙ not-true _ (c .if1 .taken)), refl)
 
 shared-slice-read-d : tie.Need-shared-slice-read-d
 shared-slice-read-d c = omega (arith, room (c .before))
@@ -72,19 +72,21 @@ is-listed-requires c κs = search needs
 
 returns-2 : tie.Need-returns-2
 unfolding readBook
-returns-2 c = rw (head (c .before .before .before .before .before .before), sym (dimension (c .before)) ∙ not-true _ (c .if2 .taken))
+returns-2 c = (rw (head (c .before .before .before .before .before .before), sym (dimension (c .before)) ∙ not-true _ (c .if2 .taken)), refl)
 
 is-sized-requires : tie.Need-is-sized-requires
 is-sized-requires c κs = search needs
 
 returns-3 : tie.Need-returns-3
 unfolding readBook
-returns-3 c =
-    rw (
-      head (c .before .before .before .before .before .before .before .before),
-      sym (dimension (c .before .before .before)) ∙ not-false _ (c .before .before .if2 .left),
-      sym (qudits (c .before)) ∙ not-true _ (c .if3 .taken),
-    )
+returns-3 c = (
+  rw (
+    head (c .before .before .before .before .before .before .before .before),
+    sym (dimension (c .before .before .before)) ∙ not-false _ (c .before .before .if2 .left),
+    sym (qudits (c .before)) ∙ not-true _ (c .if3 .taken),
+  ),
+  refl,
+)
 
 bad-contents-requires : tie.Need-bad-contents-requires
 bad-contents-requires c κs = room (c .before .before .before .before .before .before .before .before)
@@ -93,7 +95,7 @@ enum-known-place : tie.Need-enum-known-place
 enum-known-place c = search needs
 
 returns-4 : tie.Need-returns-4
-returns-4 c = rw (rest (c .before .before .before .before), ← c .before .before .before .bad-contents .ensures, c .before .place .given .1)
+returns-4 c = (rw (rest (c .before .before .before .before), ← c .before .before .before .bad-contents .ensures, c .before .place .given .1), refl)
 
 enum-told : tie.Need-enum-told
 enum-told c = search needs
@@ -111,16 +113,18 @@ read-bodies-requires : tie.Need-read-bodies-requires
 read-bodies-requires c κs = search needs
 
 returns-5 : tie.Need-returns-5
-returns-5 c =
-    rw (
-      rest (c .before .before .before .before .before .before .before),
-      contents (c .before .before .before .before),
-      ← c .before .before .before .operations .ensures,
-      ← c .before .before .errors .ensures,
-      ← c .before .choices .ensures,
-      ← c .before .before .before .before .before .before .before .before .before .before .before .before .byte-as-usize .ensures .0,
-    )
-    (c .read-bodies .ensures)
+returns-5 c = (
+  rw (
+    rest (c .before .before .before .before .before .before .before),
+    contents (c .before .before .before .before),
+    ← c .before .before .before .operations .ensures,
+    ← c .before .before .errors .ensures,
+    ← c .before .choices .ensures,
+    ← c .before .before .before .before .before .before .before .before .before .before .before .before .byte-as-usize .ensures .0,
+  )
+      (c .read-bodies .ensures .0),
+  rw (← c .before .before .before .operations .ensures) (c .read-bodies .ensures .1),
+)
 
 pub read-spec : {M : Type 1} → statement M
 read-spec =

@@ -1,6 +1,6 @@
 -- `book_body::read_bodies` meets its contract.
 -- Assumes nothing.
-use mathlib.Core.Path.{_≡_, sym, _∙_}
+use mathlib.Core.Path.{_≡_, refl, sym, _∙_}
 use Prim.Native.Nat.{_/_}
 use lib.ListN.{length}
 use denote.Ref.{now}
@@ -25,7 +25,7 @@ enum-known-place c = search needs
 
 returns : tie.Need-returns
 unfolding readBodies
-returns c = rw (← c .before .before .before .bad-operation .ensures, c .before .place .given .1)
+returns c = (rw (← c .before .before .before .bad-operation .ensures, c .before .place .given .1), refl)
 
 enum-told : tie.Need-enum-told
 enum-told c = search needs
@@ -38,13 +38,13 @@ enum-known-place-2 c = search needs
 
 returns-2 : tie.Need-returns-2
 unfolding readBodies
-returns-2 c = rw (no-bad-operation (c .before .before .before .before), ← c .before .before .before .bad-error .ensures, c .before .place2 .given .1)
+returns-2 c = (rw (no-bad-operation (c .before .before .before .before), ← c .before .before .before .bad-error .ensures, c .before .place2 .given .1), refl)
 
 enum-told-2 : tie.Need-enum-told-2
 enum-told-2 c = search needs
 
-measurements-requires : tie.Need-measurements-requires
-measurements-requires c κs = search needs
+count-requires : tie.Need-count-requires
+count-requires c κs = search needs
 
 bad-choice-requires : tie.Need-bad-choice-requires
 bad-choice-requires c κs = search needs
@@ -54,28 +54,32 @@ enum-known-place-3 c = search needs
 
 returns-3 : tie.Need-returns-3
 unfolding readBodies
-returns-3 c =
-    rw (
-      no-bad-operation (c .before .before .before .before .before .before .before .before),
-      no-bad-error (c .before .before .before .before .before),
-      ← c .before .before .before .before .measurements .ensures,
-      ← c .before .before .before .bad-choice .ensures,
-      c .before .place3 .given .1,
-    )
+returns-3 c = (
+  rw (
+    no-bad-operation (c .before .before .before .before .before .before .before .before),
+    no-bad-error (c .before .before .before .before .before),
+    ← c .before .before .before .before .count .ensures .0,
+    ← c .before .before .before .bad-choice .ensures,
+    c .before .place3 .given .1,
+  ),
+  refl,
+)
 
 enum-told-3 : tie.Need-enum-told-3
 enum-told-3 c = search needs
 
 returns-4 : tie.Need-returns-4
 unfolding readBodies
-returns-4 c =
-    rw (
-      no-bad-operation (c .before .before .before .before .before .before .before),
-      no-bad-error (c .before .before .before .before),
-      ← c .before .before .before .measurements .ensures,
-      ← c .before .before .bad-choice .ensures,
-      c .enum-told3 .given .1,
-    )
+returns-4 c = (
+  rw (
+    no-bad-operation (c .before .before .before .before .before .before .before),
+    no-bad-error (c .before .before .before .before),
+    ← c .before .before .before .count .ensures .0,
+    ← c .before .before .bad-choice .ensures,
+    c .enum-told3 .given .1,
+  ),
+  c .before .before .before .count .ensures .1,
+)
 
 pub read-bodies-spec : {M : Type 1} → statement M
 read-bodies-spec =
@@ -89,7 +93,7 @@ read-bodies-spec =
     enum-known-place-2
     returns-2
     enum-told-2
-    measurements-requires
+    count-requires
     bad-choice-requires
     enum-known-place-3
     returns-3

@@ -31,7 +31,15 @@ unfolding coded
 returns-6 c = rw (c .match .keys6)
 
 returns-7 : tie.Need-returns-7
-returns-7 c = coded-other _ _ _ _ (c .match .rest)
+unfolding coded
+returns-7 c = rw (c .match .keys7)
+
+returns-8 : tie.Need-returns-8
+unfolding coded
+returns-8 c = rw (c .match .keys8)
+
+returns-9 : tie.Need-returns-9
+returns-9 c = let a = c .before .before .before .args in rw (c .byte-as-usize .ensures .0) (coded-other (a .b0) (a .b1) (a .b2) (a .b3) (c .before .match .rest))
 
 pub coded-spec : {M : Type 1} → statement M
-coded-spec = tie.close (tie.spec (λ c κs. search needs) returns returns-2 returns-3 returns-4 returns-5 returns-6 returns-7)
+coded-spec = tie.close (tie.spec (λ c κs. search needs) (λ c κs. search needs) (λ c. search needs) (λ c. search needs) returns returns-2 returns-3 returns-4 returns-5 returns-6 returns-7 returns-8 returns-9)

@@ -13,7 +13,7 @@ returns : tie.Need-returns
 unfolding directByAnswer directBook
 returns c =
     let m = c .before .before in
-    rw (← m .before .before .read .ensures, m .reading2 .given .1, c .byte-as-usize .ensures .0)
+    rw (← m .before .before .read .ensures .0, m .reading2 .given .1, c .byte-as-usize .ensures .0)
 
 buffers-fit-requires : tie.Need-buffers-fit-requires
 buffers-fit-requires c κs =
@@ -79,7 +79,7 @@ run-requires c κs =
     let b2 = p .before .errors .ensures in
     let b3 = p .choices .ensures in (
       bodies-of (now (s .book)) g b1 b2 b3,
-      rw (b3, g .room) (r .1),
+      rw (b1, g .counted-part) (r .1),
       r .0,
       tested (now (s .book)) g (now (s .t)) (now (s .results)) (o .buffers-fit .ensures) (v .before .before .if1 .left) (v .is-valid-for .ensures) (p .before .before .before .if2 .left),
     )

@@ -1,40 +1,66 @@
 -- `direct_step::perform` meets its contract.
 -- Assumes nothing.
+use mathlib.Core.Path.{_≡_}
+use mathlib.Core.Bool.{true}
+use Prim.Native.Nat.{ℕ, _<_}
+use native.Mathlib.Omega.{arith}
 use borrow.Author.Needs.{needs}
 use borrow.Author.Tests.{ltb-true}
 use Rattle.modular.proofs.Listed.{dimension}
 use Rattle.validity.proofs.Exactly.{valid-tableau}
 use Rattle.validity_laws.proofs.Keeping.{gate-keeps-valid}
+use Rattle.operation.specs.declared.Operation.{Operation}
+use Rattle.operation.specs.declared.Operation.the-variants.{Correct}
+use Rattle.operation.specs.Operation.{named}
 use Rattle.circuit.proofs.Gates.{is-gate}
 use Rattle.runs.specs.Direct.{directKind}
 use Rattle.direct_step.proofs.perform.Statement.{statement}
 use Rattle.direct_step.proofs.perform.Tie as tie
 
+-- the measurement that a correction names
+earlier : {j t m : ℕ} {op : Operation} → op ≡ Correct t m → named j op ≡ true → m < j
+earlier {j} {t} {m} e h = ltb-true m j (rw e at h)
+
 measure-requires : tie.Need-measure-requires
 measure-requires c κs =
-    let o = c .before .before .before in
-    let s = o .before .before .before .before .before .before in
-    let e = o .operation .given .1 in
-    (s .pre .0, ltb-true _ _ (rw e at (s .pre .1)), rw e at (s .pre .2), s .pre .3)
+    let s = c .before .before .before .before .before .before .before .before .before in
+    let e = c .before .before .before .operation .given .1 in
+    (s .pre .0, ltb-true _ _ (rw e at (s .pre .1)), rw e at (s .pre .3), omega (arith, rw e at (s .pre .4)), s .pre .5)
+
+reset-requires : tie.Need-reset-requires
+reset-requires c κs =
+    let s = c .before .before .before .before .before .before .before .before in
+    let e = c .before .before .operation2 .given .1 in
+    (s .pre .0, ltb-true _ _ (rw e at (s .pre .1)), rw e at (s .pre .3), s .pre .5)
+
+correct-requires : tie.Need-correct-requires
+correct-requires c κs =
+    let s = c .before .before .before .before .before .before .before .before .before in
+    let e = c .before .before .before .operation3 .given .1 in
+    (s .pre .0, ltb-true _ _ (rw e at (s .pre .1)), omega (arith, earlier e (s .pre .2), s .pre .4), s .pre .5)
 
 returns : tie.Need-returns
 unfolding directKind
-returns c =
-    let m = c .before .before .before .before in
-    let o = m .before .before .before .before in
-    (rw (o .operation .given .1) (m .measure .ensures .0), m .measure .ensures .1, search needs)
-
-gate-rows-requires : tie.Need-gate-rows-requires
-gate-rows-requires c κs = let s = c .before .before .before .before .before .before in (s .pre .0 .qudits, s .pre .1, s .pre .0 .made, valid-tableau _ _ _ (s .pre .3))
+returns c = (rw (c .before .before .before .before .before .before .before .before .operation .given .1) (c .before .before .before .before .measure .ensures .0), c .before .before .before .before .measure .ensures .1, search needs)
 
 returns-2 : tie.Need-returns-2
 unfolding directKind
-returns-2 c =
-    let g = c .before .before in
-    let s = g .before .before .before .before .before .before .before in
-    let e = g .gate-rows .ensures in (
-      rw (is-gate (s .args .step .operation) (g .before .before .match .keys2), e),
-      rw e (gate-keeps-valid _ _ (dimension _ (s .pre .0 .dimension)) (s .args .step .operation) (s .pre .1) _ (s .pre .3)),
+returns-2 c = (rw (c .before .before .before .before .before .operation2 .given .1, c .before .before .reset .ensures .0), c .before .before .reset .ensures .1, search needs)
+
+returns-3 : tie.Need-returns-3
+unfolding directKind
+returns-3 c = (rw (c .before .before .before .before .before .before .operation3 .given .1, c .before .before .correct .ensures .0), c .before .before .correct .ensures .1, search needs)
+
+gate-rows-requires : tie.Need-gate-rows-requires
+gate-rows-requires c κs = let s = c .before .before .before .before .before .before in (s .pre .0 .qudits, s .pre .1, s .pre .0 .made, valid-tableau _ _ _ (s .pre .5))
+
+returns-4 : tie.Need-returns-4
+unfolding directKind
+returns-4 c =
+    let s = c .before .before .before .before .before .before .before .before .before in
+    let e = c .before .before .gate-rows .ensures in (
+      rw (is-gate (s .args .step .operation) (c .before .before .before .before .match .keys4), e),
+      rw e (gate-keeps-valid _ _ (dimension _ (s .pre .0 .dimension)) (s .args .step .operation) (s .pre .1) _ (s .pre .5)),
       search needs,
     )
 
@@ -45,8 +71,17 @@ perform-spec =
     (λ c. search needs)
     measure-requires
     (λ c. search needs)
+    reset-requires
     (λ c. search needs)
-    returns
+    correct-requires
     gate-rows-requires
     (λ c. search needs)
-    returns-2)
+    (λ c. search needs)
+    returns
+    (λ c. search needs)
+    returns-2
+    (λ c. search needs)
+    (λ c. search needs)
+    returns-3
+    (λ c. search needs)
+    returns-4)

@@ -100,6 +100,14 @@ returns-7 : tie.Need-returns-7
 unfolding gatePowers
 returns-7 c = (rw (c .enum-told .given .1), c .before .before .before .pre .2)
 
+returns-8 : tie.Need-returns-8
+unfolding gatePowers
+returns-8 c = (rw (c .enum-told2 .given .1), c .before .before .before .pre .2)
+
+returns-9 : tie.Need-returns-9
+unfolding gatePowers
+returns-9 c = (rw (c .enum-told3 .given .1), c .before .before .before .pre .2)
+
 pub gate-frame-spec : {M : Type 1} → statement M
 gate-frame-spec =
     tie.close
@@ -118,6 +126,8 @@ gate-frame-spec =
     multiplier-powers-requires
     enum-told
     (λ c. search needs)
+    (λ c. search needs)
+    (λ c. search needs)
     returns
     (λ c. search needs)
     returns-2
@@ -129,4 +139,6 @@ gate-frame-spec =
     returns-5
     (λ c. search needs)
     returns-6
-    returns-7)
+    returns-7
+    returns-8
+    returns-9)

@@ -16,7 +16,7 @@ returns : tie.Need-returns
 unfolding frameByAnswer frameBook
 returns c =
     let m = c .before .before .before in
-    rw (c .refused .ensures, ← m .before .before .read .ensures, m .reading2 .given .1, c .before .byte-as-usize .ensures .0)
+    rw (c .refused .ensures, ← m .before .before .read .ensures .0, m .reading2 .given .1, c .before .byte-as-usize .ensures .0)
 
 buffers-fit-requires : tie.Need-buffers-fit-requires
 buffers-fit-requires c κs =
@@ -99,7 +99,7 @@ run-requires c κs =
     let b2 = p .before .errors .ensures in
     let b3 = p .choices .ensures in (
       bodies-of book g b1 b2 b3,
-      rw (b3, g .room) (r .1),
+      rw (b1, g .counted-part) (r .1),
       r .0,
       rows book g lent (o .buffers-fit .ensures) (v .before .before .if1 .left) (v .is-valid-for .ensures) (p .before .before .before .if2 .left),
     )

@@ -9,6 +9,7 @@ use Rattle.validity.proofs.Exactly.{valid-tableau}
 use Rattle.book.specs.Decoded.{operationsOf, errorsOf}
 use Rattle.runs.specs.Direct.{stateOf}
 use Rattle.runs.proofs.Frames.{no-frame}
+use Rattle.runs.proofs.Results.{measured-chosen}
 use Rattle.run_laws.proofs.Books.{without-errors}
 use Rattle.frame_run.proofs.Ends.{run-ends}
 use borrow.Author.Needs.{needs}
@@ -24,12 +25,15 @@ carry-requires : tie.Need-carry-requires
 carry-requires c κs =
     let s = c .before .before .before .before .before .before .before .before .before .before .before .before .before .before .before .before .before in
     let g = s .pre .0 in
+    let ops = operationsOf (s .args .d) (s .args .n) (now (s .args .ops)) in
     let dim = dimension (s .args .d) (g .dimension) in (
       record {
         dimension = g .dimension;
         operations = g .lists .operations;
+        names = g .lists .names;
+        few = omega (arith, g .few, g .lists .one-each, measured-chosen ops (length ops));
         errors-in-order = g .lists .errors-in-order;
-        room = omega (arith, s .pre .1 .results-room, g .lists .one-each);
+        room = omega (arith, s .pre .1 .results-room);
       },
       rw (s .pre .2) (no-frame (s .args .d) (s .args .n) (omega arith) .powers),
     )
@@ -63,7 +67,8 @@ returns c =
       run-ends (a .d) (a .n) ops (errorsOf (now (a .errors))) (now (a .choices)) (stateOf (now (a .rows)) (now (a .results)))
           (now (a .shifts))
           (now (a .out))
-          (omega (arith, s .pre .1 .results-room, s .pre .0 .lists .one-each))
+          (omega (arith, dimension (a .d) (s .pre .0 .dimension) .low))
+          (s .pre .1 .results-room)
           (r .run .ensures .0) (s .pre .2) (after .0) (after .1) (e .0) (e .1) (e .2) (e .3),
       refl,
       r .run .ensures .1,

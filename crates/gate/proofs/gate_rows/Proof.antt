@@ -3,7 +3,7 @@
 use mathlib.Core.Path.{sym}
 use native.Mathlib.Omega.{arith}
 use borrow.Author.Needs.{needs}
-use Rattle.gate.proofs.Rows.{measure-none}
+use Rattle.gate.proofs.Rows.{measure-none, reset-none, correct-none}
 use Rattle.gate.proofs.gate_rows.Statement.{statement}
 use Rattle.gate.proofs.gate_rows.Tie as tie
 
@@ -64,6 +64,18 @@ returns-7 c =
     let e = c .enum-told .given .1 in
     rw e (sym (measure-none _ _ _ (s .pre .3) _ (rw e at (s .pre .1))))
 
+returns-8 : tie.Need-returns-8
+returns-8 c =
+    let s = c .before .before .before .before in
+    let e = c .enum-told2 .given .1 in
+    rw e (sym (reset-none _ _ _ (s .pre .3) _ (rw e at (s .pre .1))))
+
+returns-9 : tie.Need-returns-9
+returns-9 c =
+    let s = c .before .before .before .before in
+    let e = c .enum-told3 .given .1 in
+    rw e (sym (correct-none _ _ _ (s .pre .3) _ _ (rw e at (s .pre .1))))
+
 pub gate-rows-spec : {M : Type 1} → statement M
 gate-rows-spec =
     tie.close
@@ -83,6 +95,8 @@ gate-rows-spec =
     gate-all-requires-2
     enum-told
     (λ c. search needs)
+    (λ c. search needs)
+    (λ c. search needs)
     returns
     (λ c. search needs)
     returns-2
@@ -94,4 +108,6 @@ gate-rows-spec =
     returns-5
     (λ c. search needs)
     returns-6
-    returns-7)
+    returns-7
+    returns-8
+    returns-9)

@@ -1,6 +1,6 @@
 -- `lane_gate::perform` meets its contract.
 -- Assumes nothing.
-use mathlib.Core.Path.{_≡_, refl}
+use mathlib.Core.Path.{_≡_, refl, sym}
 use mathlib.Core.Bool.{true}
 use mathlib.Core.List.{List}
 use Prim.Native.Nat.{ℕ, _+_, _*_}
@@ -133,8 +133,11 @@ multiplier-lanes-requires c κs =
     (s .pre .3, f .0, record { below = f .2; inverts = i; small = rw i (dimension _ (s .pre .1) .small _) }, s .pre .4)
 
 returns-7 : tie.Need-returns-7
-unfolding gatePowers
-returns-7 c = did (c .before) (code-rest _ _ _ _ (start (c .before) .pre .0) (good (c .before)) (c .match .rest)) (record { len = refl; each = λ l h. refl })
+returns-7 c =
+    let s = start (c .before) in
+    let a = s .args in
+    did (c .before) refl
+    (record { len = refl; each = λ l h. sym (code-rest (a .d) (a .n) (now (a .ops)) (a .k) (s .pre .0) (good (c .before)) (c .match .rest) _) })
 
 pub perform-spec : {M : Type 1} → statement M
 perform-spec =

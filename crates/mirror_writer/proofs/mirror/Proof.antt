@@ -3,9 +3,9 @@
 use mathlib.Core.Path.{sym, _∙_}
 use denote.Ref.{now}
 use borrow.Author.Needs.{needs}
-use Rattle.book.proofs.Handed.{handed}
+use Rattle.book.proofs.Handed.{handed, choices-counted}
 use Rattle.mirror_book.specs.MirrorBook.{mirrorByAnswer, mirrorBook}
-use Rattle.mirror_writer.proofs.Books.{most, entries, counted, measuring-book, short-book, mirrored-book}
+use Rattle.mirror_writer.proofs.Books.{most, allows, names, entries, measuring-book, short-book, mirrored-book}
 use Rattle.mirror_writer.proofs.mirror.Statement.{statement}
 use Rattle.mirror_writer.proofs.mirror.Tie as tie
 
@@ -13,7 +13,7 @@ returns : tie.Need-returns
 unfolding mirrorBook mirrorByAnswer
 returns c =
     let m = c .before .before .before in
-    rw (c .refused .ensures, ← m .before .before .read .ensures, m .reading2 .given .1, c .before .byte-as-usize .ensures .0)
+    rw (c .refused .ensures, ← m .before .before .read .ensures .0, m .reading2 .given .1, c .before .byte-as-usize .ensures .0)
 
 operations-requires : tie.Need-operations-requires
 operations-requires c κs =
@@ -28,7 +28,7 @@ measurement-in-requires c κs =
     let s = m .before .before .before .before .before .args in
     let g = handed (now (s .book)) (m .before .before .read .ensures) (m .reading .given .1) in
     let is = c .operations .ensures in
-    (entries (now (s .book)) g is .operations, counted (now (s .book)) g is)
+    (allows (now (s .book)) g is, names (now (s .book)) g is, rw is (choices-counted (now (s .book)) (m .before .before .read .ensures) (m .reading .given .1)))
 
 returns-2 : tie.Need-returns-2
 returns-2 c =
@@ -57,7 +57,7 @@ write-mirror-requires c κs =
     let s = m .before .before .before .before .before .args in
     let g = handed (now (s .book)) (m .before .before .read .ensures) (m .reading .given .1) in
     let is = o .operations .ensures in
-    (entries (now (s .book)) g is, most (now (s .book)) g is, g .qudits, c .before .if1 .left)
+    (entries (now (s .book)) g is (sym (e .enum-told .given .1) ∙ e .before .before .measurement-in .ensures), most (now (s .book)) g is, g .qudits, c .before .if1 .left)
 
 returns-4 : tie.Need-returns-4
 returns-4 c =

@@ -9,7 +9,7 @@ use Rattle.tray_run.proofs.run_shots.Tie as tie
 run-requires : tie.Need-run-requires
 run-requires c κs =
     let s = c .before .before .before .before .before .before .before in
-    rw (rows-part (now (s .args .t))) (s .pre .1, s .pre .2)
+    rw (rows-part (now (s .args .t))) (s .pre .1, s .pre .2, s .pre .3)
 
 returns : tie.Need-returns
 returns c =

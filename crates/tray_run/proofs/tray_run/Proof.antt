@@ -29,7 +29,7 @@ returns : tie.Need-returns
 unfolding trayByAnswer trayBook
 returns c =
     let m = c .before .before .before in
-    rw (c .refused .ensures, ← m .before .before .read .ensures, m .reading2 .given .1, c .before .byte-as-usize .ensures .0)
+    rw (c .refused .ensures, ← m .before .before .read .ensures .0, m .reading2 .given .1, c .before .byte-as-usize .ensures .0)
 
 table-fits-requires : tie.Need-table-fits-requires
 table-fits-requires c κs = search needs
@@ -173,6 +173,7 @@ run-shots-requires c κs =
     rw (c .before .operations .ensures, c .choices .ensures) (
       rooms b (now (a .tray)) (now (a .t)) (now (a .out)) table good fitting .0,
       given b (now (a .tray)) (now (a .t)) (now (a .out)) table good fitting tested,
+      sym (b .hands .counted-part),
       rooms b (now (a .tray)) (now (a .t)) (now (a .out)) table good fitting .1,
     )
 

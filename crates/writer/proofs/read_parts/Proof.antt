@@ -58,7 +58,7 @@ returns-4 : tie.Need-returns-4
 unfolding readParts
 returns-4 c =
     let b = c .before .before .before in
-    rw (is-listed (b .before .before .before), is-sized (b .before), ← b .bad-lengths .ensures, c .before .enum-told .given .1) (c .read-bodies .ensures)
+    rw (is-listed (b .before .before .before), is-sized (b .before), ← b .bad-lengths .ensures, c .before .enum-told .given .1) (c .read-bodies .ensures .0)
 
 pub read-parts-spec : {M : Type 1} → statement M
 read-parts-spec =
