@@ -13,8 +13,9 @@ use Rattle.book_entries.specs.declared.Decoded.{Decoded}
 use Rattle.book_entries.specs.declared.Decoded.the-variants.{Good, Bad}
 use Rattle.book_body.specs.declared.Reading.{Reading}
 use Rattle.book_body.specs.declared.Reading.the-variants.{Accepted, Refused}
-use Rattle.search.specs.Search.{unless, firstNot}
+use Rattle.search.specs.Search.{unless, all, firstNot}
 use Rattle.book_entries.specs.Entry.{word, operationAt, errorAt}
+use Rattle.book_entries.specs.Fits.{plainAt}
 
 -- a number of bytes that is whole entries of `size` bytes, at most `most` of them
 abbrev pub lengthFits : (bytes size most : ℕ) → Bool
@@ -41,6 +42,10 @@ goodOperation d n ops k = isGood (measurements ops k) (operationAt d n ops k)
 -- the same of the naming alone, by an entry's bytes: a correction's bytes 2 and 3 are below the number of earlier measurements
 abbrev pub namesEarlier : List ℕ → ℕ → ℕ → Bool
 namesEarlier ops k earlier = not (eqb (getD ops (4 * k) 0) 8) || ltb (word ops (4 * k + 2)) earlier
+
+-- gates and measurements alone
+abbrev pub allPlain : ℕ → ℕ → List ℕ → Bool
+allPlain d n ops = all (plainAt d n ops) (length ops / 4)
 
 unfoldable pub badOperation : ℕ → ℕ → List ℕ → Place
 badOperation d n ops = firstNot (goodOperation d n ops) (length ops / 4)

@@ -2,7 +2,7 @@
 ghost use mathlib.Core.Path.{_≡_};
 ghost use Prim.Native.Nat.{_*_, _/_, _<_};
 ghost use lib.ListN.{length};
-ghost use Rattle.book_body.specs.Body.{lengthFits, namesEarlier, badOperation, measurements, choiceTakers, errorFits, badError, smaller, badChoice, readBodies, answerOf, measuredOf, measuredBy};
+ghost use Rattle.book_body.specs.Body.{lengthFits, namesEarlier, allPlain, badOperation, measurements, choiceTakers, errorFits, badError, smaller, badChoice, readBodies, answerOf, measuredOf, measuredBy};
 use book_entries::Decoded;
 use operation::WeylError;
 use search::Place;
@@ -40,8 +40,23 @@ fn names_earlier(ops: &[u8], k: usize, earlier: usize) -> bool
     (ops[4 * k] != 8) | (book_entries::word(ops, 4 * k + 2) < earlier)
 }
 
-// 5: the first bad operation.
-pub fn bad_operation(ops: &[u8], d: u8, n: usize) -> Place
+// Whether every operation is a gate or a measurement: such a body has nothing bad, and its choices are counted by the measurements.
+fn all_plain(ops: &[u8], d: u8, n: usize) -> bool
+    ensures { λ r. ⌜ r ≡ allPlain d n (now (ops .entry)) ⌝ }
+{
+    let count = ops.len() / 4;
+    let mut k = 0;
+    while k < count {
+        if !book_entries::plain_at(ops, k, d, n) {
+            return false;
+        }
+        k += 1;
+    }
+    true
+}
+
+// The first bad operation of any body.
+fn bad_among(ops: &[u8], d: u8, n: usize) -> Place
     ensures { λ r. ⌜ r ≡ badOperation d n (now (ops .entry)) ⌝ }
 {
     let count = ops.len() / 4;
@@ -60,30 +75,56 @@ pub fn bad_operation(ops: &[u8], d: u8, n: usize) -> Place
     Place::Nowhere
 }
 
-// How many of the operations take a choice, and how many are measurements.
-struct Counts {
-    choices: usize,
-    measurements: usize,
+// 5: the first bad operation. (Asked of each entry, its name would cost books without corrections a fifth of the reading.)
+fn bad_operation(ops: &[u8], plain: bool, d: u8, n: usize) -> Place
+    requires { ⌜ plain ≡ allPlain d n (now ops) ⌝ }
+    ensures { λ r. ⌜ r ≡ badOperation d n (now (ops .entry)) ⌝ }
+{
+    if plain {
+        return Place::Nowhere;
+    }
+    bad_among(ops, d, n)
 }
 
-fn count(ops: &[u8]) -> Counts
-    ensures { λ r. ⌜ (r .choices ≡ choiceTakers (now (ops .entry)) (length (now (ops .entry)) / 4))
-        × (r .measurements ≡ measurements (now (ops .entry)) (length (now (ops .entry)) / 4)) ⌝ }
+// How many of the operations are measurements.
+fn measurements(ops: &[u8]) -> usize
+    ensures { λ r. ⌜ r ≡ measurements (now (ops .entry)) (length (now (ops .entry)) / 4) ⌝ }
 {
-    let end = ops.len() / 4;
-    let mut choices = 0;
-    let mut measurements = 0;
+    let count = ops.len() / 4;
+    let mut sum = 0;
     let mut k = 0;
-    while k < end {
-        let code = ops[4 * k];
-        choices += search::one_if((code == 6) | (code == 7));
-        measurements += search::one_if(code == 6);
+    while k < count {
+        sum += search::one_if(ops[4 * k] == 6);
         k += 1;
     }
-    Counts {
-        choices,
-        measurements,
+    sum
+}
+
+// How many of the operations are measurements or resets.
+fn choice_takers(ops: &[u8]) -> usize
+    ensures { λ r. ⌜ r ≡ choiceTakers (now (ops .entry)) (length (now (ops .entry)) / 4) ⌝ }
+{
+    let count = ops.len() / 4;
+    let mut sum = 0;
+    let mut k = 0;
+    while k < count {
+        let code = ops[4 * k];
+        sum += search::one_if((code == 6) | (code == 7));
+        k += 1;
     }
+    sum
+}
+
+// How many choices the operations take, so many of them being measurements.
+fn choices_taken(ops: &[u8], plain: bool, measured: usize, d: u8, n: usize) -> usize
+    requires { ⌜ (plain ≡ allPlain d n (now ops))
+        × (measured ≡ measurements (now ops) (length (now ops) / 4)) ⌝ }
+    ensures { λ r. ⌜ r ≡ choiceTakers (now (ops .entry)) (length (now (ops .entry)) / 4) ⌝ }
+{
+    if plain {
+        return measured;
+    }
+    choice_takers(ops)
 }
 
 fn error_fits(d: u8, n: usize, count: usize, last: usize, e: WeylError) -> bool
@@ -139,15 +180,17 @@ pub fn read_bodies(ops: &[u8], errors: &[u8], choices: &[u8], d: u8, n: usize) -
     ensures { λ r. ⌜ (answerOf r ≡ readBodies d n (now (ops .entry)) (now (errors .entry)) (now (choices .entry)))
         × (measuredOf r ≡ measuredBy (now (ops .entry)) (answerOf r)) ⌝ }
 {
-    if let Place::At(place) = bad_operation(ops, d, n) {
+    let plain = all_plain(ops, d, n);
+    if let Place::At(place) = bad_operation(ops, plain, d, n) {
         return Reading::Refused { number: 5, place };
     }
     let operations = ops.len() / 4;
     if let Place::At(place) = bad_error(errors, operations, d, n) {
         return Reading::Refused { number: 6, place };
     }
-    let counts = count(ops);
-    if let Place::At(place) = bad_choice(choices, counts.choices, d) {
+    let measurements = measurements(ops);
+    let taken = choices_taken(ops, plain, measurements, d, n);
+    if let Place::At(place) = bad_choice(choices, taken, d) {
         return Reading::Refused { number: 7, place };
     }
     let numbers = Numbers {
@@ -156,7 +199,7 @@ pub fn read_bodies(ops: &[u8], errors: &[u8], choices: &[u8], d: u8, n: usize) -
         operations,
         errors: errors.len() / 5,
         choices: choices.len(),
-        measurements: counts.measurements,
+        measurements,
     };
     Reading::Accepted(numbers)
 }

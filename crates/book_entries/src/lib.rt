@@ -3,7 +3,7 @@ ghost use mathlib.Core.Path.{_≡_};
 ghost use Prim.Native.Nat.{_+_, _/_, _<_};
 ghost use lib.ListN.{length};
 ghost use Rattle.book_entries.specs.Entry.{word, timesIn, decoded, coded, operationAt, stepOf, errorAt};
-ghost use Rattle.book_entries.specs.Fits.{secondFits, lastLimit, lastFits, fits};
+ghost use Rattle.book_entries.specs.Fits.{secondFits, lastLimit, lastFits, plainFits, plainAt, fits};
 use operation::Operation;
 use operation::Step;
 use operation::WeylError;
@@ -53,7 +53,7 @@ fn zero_fits(d: u8, b0: u8) -> bool
     if 1 < d {
         b0 != 5
     } else {
-        (b0 == 0) | ((b0 == 4) | (6 <= b0))
+        (b0 == 0) | ((b0 == 4) | (b0 == 6))
     }
 }
 
@@ -63,7 +63,7 @@ fn last_limit(d: u8, b0: u8) -> u8
     if b0 == 0 {
         return 4;
     }
-    if (b0 == 4) | (6 <= b0) { 2 } else { d }
+    if (b0 == 4) | (b0 == 6) { 2 } else { d }
 }
 
 // 0, which most entries have, is asked for first.
@@ -76,14 +76,38 @@ fn last_fits(d: u8, b0: u8, b3: u8) -> bool
     (b3 < last_limit(d, b0)) & ((b3 != 1) | (b0 == 5))
 }
 
-// Whether four bytes are an operation, without telling every code apart: a processor foresees the jump to a test of each code badly.
+// Whether four bytes are a gate or a measurement, without telling every code apart: a processor foresees the jump to a test of each code
+// badly.
+fn plain_fits(d: u8, n: usize, b0: u8, b1: usize, b2: usize, b3: u8) -> bool
+    ensures { λ r. ⌜ r ≡ plainFits d n b0 b1 b2 b3 ⌝ }
+{
+    ((b0 <= 6) & (b1 < n)) & (second_fits(n, b0, b1, b2) & last_fits(d, b0, b3))
+}
+
+// Whether entry k of a body of operations is a gate or a measurement.
+pub fn plain_at(ops: &[u8], k: usize, d: u8, n: usize) -> bool
+    requires { ⌜ k < length (now ops) / 4 ⌝ }
+    ensures { λ r. ⌜ r ≡ plainAt d n (now (ops .entry)) k ⌝ }
+{
+    let at = 4 * k;
+    plain_fits(
+        d,
+        n,
+        ops[at],
+        casts::byte_as_usize(ops[at + 1]),
+        casts::byte_as_usize(ops[at + 2]),
+        ops[at + 3],
+    )
+}
+
+// Whether four bytes are an operation.
 fn fits(d: u8, n: usize, b0: u8, b1: usize, b2: usize, b3: u8) -> bool
     ensures { λ r. ⌜ r ≡ fits d n b0 b1 b2 b3 ⌝ }
 {
-    if b0 == 8 {
-        return (b1 < n) & (b2 < 256);
+    if plain_fits(d, n, b0, b1, b2, b3) {
+        return true;
     }
-    ((b0 <= 8) & (b1 < n)) & (second_fits(n, b0, b1, b2) & last_fits(d, b0, b3))
+    (b1 < n) & (((b0 == 7) & ((b2 == 0) & (b3 == 0))) | ((b0 == 8) & (b2 < 256)))
 }
 
 // The operation of a code. Nothing is tested: for bytes that a reader has accepted.

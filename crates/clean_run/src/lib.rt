@@ -39,20 +39,16 @@ fn run_by(
     };
     let mut k = 0;
     while k < count {
-        direct_step::operate(
-            t,
-            results,
-            ops,
-            choices,
-            k,
-            at.choices,
-            at.measurements,
-            tables,
-            d,
-            n,
-        );
+        let c = at.choices;
+        let j = at.measurements;
+        let next = k + 1;
         at = direct_step::counted(ops, k, at, d, n);
-        k += 1;
+        if ops[4 * k] < 6 {
+            direct_step::operate_gate(t, ops, k, tables, d, n);
+        } else {
+            direct_step::operate(t, results, ops, choices, k, c, j, tables, d, n);
+        }
+        k = next;
     }
     at.measurements
 }

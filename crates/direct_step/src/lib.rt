@@ -1,12 +1,14 @@
 // A step of the direct run: the errors of its place, then its operation.
 ghost use mathlib.Core.Path.{_≡_};
+ghost use mathlib.Core.Logic.{_≢_};
 ghost use mathlib.Core.Bool.{true};
 ghost use Prim.Native.Nat.{_+_, _*_, _/_, _<_, _≤_};
-ghost use lib.ListN.{length};
+ghost use lib.ListN.{length, getD};
 ghost use Rattle.validity.specs.Validity.{Valid};
 ghost use Rattle.operation.specs.Operation.{allowed, named};
+ghost use Rattle.operation.specs.Gate.{gateRows};
 ghost use Rattle.operation.specs.Error.{errorRows, minusX};
-ghost use Rattle.circuit.specs.Circuit.{opAt, tally, measurementCount, choiceTally, ErrorsInOrder};
+ghost use Rattle.circuit.specs.Circuit.{opAt, gate, kind, tally, measurementCount, choiceTally, chosen, ErrorsInOrder};
 ghost use Rattle.book.specs.Decoded.{operationsOf, errorsOf};
 ghost use Rattle.runs.specs.Run.{resultOf};
 ghost use Rattle.runs.specs.Reached.{Reached, AtStep};
@@ -63,7 +65,7 @@ fn correct(t: &mut [u8], results: &[u8], m: usize, q: usize, tables: &[u8], d: u
     error::minus_x_rows(t, q, r, tables, d, n);
 }
 
-// Does the operation of a step on the rows, c choices having been taken and j results given before it.
+// Does a step that is no gate, c choices having been taken and j results given before it.
 fn perform(
     t: &mut [u8],
     results: &mut [u8],
@@ -78,13 +80,13 @@ fn perform(
     requires { ⌜ RunTables d n (now tables)
         × (allowed d n (step .operation) ≡ true)
         × (named j (step .operation) ≡ true)
+        × (kind (step .operation) ≢ gate)
         × Supplied d c (choiceTally (step .operation)) (now choices)
         × (2 * (j + tally (step .operation)) ≤ length (now results))
         × Valid d n (now t) ⌝ }
     ensures { λ _. ⌜ (stateOf (now (t .exit)) (now (results .exit))
         ≡ directOperation d n (now (choices .entry)) c j (stateOf (now (t .entry)) (now (results .entry))) (step .operation))
-        × Valid d n (now (t .exit))
-        × (length (now (results .exit)) ≡ length (now (results .entry))) ⌝ }
+        × Valid d n (now (t .exit)) ⌝ }
 {
     let operation = step.operation;
     match operation {
@@ -97,13 +99,12 @@ fn perform(
         Operation::Correct { t: q, m } => {
             correct(t, results, m, q, tables, d, n);
         }
-        _ => {
-            gate::gate_rows(t, operation, tables, d, n);
-        }
+        // never: gates are told by their code before
+        _ => {}
     }
 }
 
-// Operation k, c choices having been taken and j results given before it.
+// Operation k, which is no gate.
 pub fn operate(
     t: &mut [u8],
     results: &mut [u8],
@@ -120,14 +121,14 @@ pub fn operate(
         × RunTables d n (now tables)
         × (allowed d n (opAt (operationsOf d n (now ops)) k) ≡ true)
         × (named j (opAt (operationsOf d n (now ops)) k) ≡ true)
+        × (6 ≤ getD (now ops) (4 * k) 0)
         × Supplied d c (choiceTally (opAt (operationsOf d n (now ops)) k)) (now choices)
         × (2 * (j + tally (opAt (operationsOf d n (now ops)) k)) ≤ length (now results))
         × Valid d n (now t) ⌝ }
     ensures { λ _. ⌜ (stateOf (now (t .exit)) (now (results .exit))
         ≡ directOperation d n (now (choices .entry)) c j (stateOf (now (t .entry)) (now (results .entry)))
         (opAt (operationsOf d n (now (ops .entry))) k))
-        × Valid d n (now (t .exit))
-        × (length (now (results .exit)) ≡ length (now (results .entry))) ⌝ }
+        × Valid d n (now (t .exit)) ⌝ }
 {
     let Taken::Next(step) = book_entries::step_at(ops, k, d, n) else {
         // never: the reader let every entry pass
@@ -136,7 +137,20 @@ pub fn operate(
     perform(t, results, choices, step, c, j, tables, d, n);
 }
 
-// Counts operation k by its code. (Counted within `operate`, the numbers would take registers from the gates' loops.)
+// Operation k, a gate, on the rows. (Beside the other operations, in `operate`, its loops would lack registers.)
+pub fn operate_gate(t: &mut [u8], ops: &[u8], k: usize, tables: &[u8], d: u8, n: usize)
+    requires { ⌜ (k < length (now ops) / 4)
+        × RunTables d n (now tables)
+        × (allowed d n (opAt (operationsOf d n (now ops)) k) ≡ true)
+        × Valid d n (now t) ⌝ }
+    ensures { λ _. ⌜ (now (t .exit) ≡ gateRows d n (opAt (operationsOf d n (now (ops .entry))) k) (now (t .entry)))
+        × Valid d n (now (t .exit)) ⌝ }
+{
+    let operation = operation_codes::operation_of(ops, k, d, n);
+    gate::gate_rows(t, operation, tables, d, n);
+}
+
+// Counts operation k by its code.
 pub fn counted(ops: &[u8], k: usize, at: Position, d: u8, n: usize) -> Position
     requires { ⌜ (k < length (now ops) / 4)
         × (allowed d n (opAt (operationsOf d n (now ops)) k) ≡ true)
@@ -170,33 +184,31 @@ pub fn advance(
     requires { ⌜ (k < length (now ops) / 4)
         × Inputs d n (now ops) (now errors) (now choices) (now tables)
         × AtStep (operationsOf d n (now ops)) (errorsOf (now errors)) k at
+        × (at .choices ≡ chosen (operationsOf d n (now ops)) k)
         × (2 * measurementCount (operationsOf d n (now ops)) ≤ length (now results))
         × Valid d n (now t) ⌝ }
     ensures { λ r. ⌜ (stateOf (now (t .exit)) (now (results .exit))
         ≡ directStep d n (operationsOf d n (now (ops .entry))) (errorsOf (now (errors .entry))) (now (choices .entry)) k
         (stateOf (now (t .entry)) (now (results .entry))))
         × AtStep (operationsOf d n (now (ops .entry))) (errorsOf (now (errors .entry))) (k + 1) r
+        × (r .choices ≡ chosen (operationsOf d n (now (ops .entry))) (k + 1))
         × Valid d n (now (t .exit))
         × (length (now (results .exit)) ≡ length (now (results .entry))) ⌝ }
 {
     let from = at.entry;
     let entry = apply_errors(t, errors, from, k, tables, d, n);
-    operate(
-        t,
-        results,
-        ops,
-        choices,
-        k,
-        at.choices,
-        at.measurements,
-        tables,
-        d,
-        n,
-    );
+    let c = at.choices;
+    let j = at.measurements;
     let before = Position {
         entry,
-        measurements: at.measurements,
-        choices: at.choices,
+        measurements: j,
+        choices: c,
     };
-    counted(ops, k, before, d, n)
+    let next = counted(ops, k, before, d, n);
+    if ops[4 * k] < 6 {
+        operate_gate(t, ops, k, tables, d, n);
+        return next;
+    }
+    operate(t, results, ops, choices, k, c, j, tables, d, n);
+    next
 }

@@ -18,7 +18,7 @@ use Rattle.operation.specs.declared.WeylError.{WeylError}
 use Rattle.operation.specs.Operation.{allowed, named}
 use Rattle.operation.specs.Error.{errorFrame}
 use Rattle.operation.proofs.Error.{error-powers}
-use Rattle.circuit.specs.Circuit.{opAt, errAt, Kind, gate, measures, resets, corrects, kind, tallyKind, tally, measured, measurementCount, chosen}
+use Rattle.circuit.specs.Circuit.{opAt, errAt, Kind, gate, measures, resets, corrects, kind, tallyKind, tally, measured, measurementCount}
 use Rattle.runs.specs.declared.Position.{Position}
 use Rattle.runs.specs.Reached.{AtStep}
 use Rattle.runs.specs.Frame.{errorsOnFrame, correctFrame}
@@ -57,10 +57,10 @@ module _ (d n : ℕ) (ops : List Operation) (errors : List WeylError) (F v : Lis
     pub noted : (i : ℕ) → i < measured ops k → getD S i 0 ≡ getD shifts i 0
 
   pub carried-none : (S : List ℕ) → FrameCarried 0 (record { entry = 0; measurements = 0; choices = 0 }) F v S
-  unfolding measured chosen carried
+  unfolding measured carried
   carried-none S =
       record {
-        at-step = record { reached = reached-none errors; count = refl; taken = refl };
+        at-step = record { reached = reached-none errors; count = refl };
         frame = refl;
         results = sym (with-none d shifts v);
         noted = λ i l. absurd (omega arith);

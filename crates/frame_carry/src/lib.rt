@@ -126,7 +126,8 @@ fn advance(
     };
     perform(frame, results, shifts, step, j, d, m, n);
     let measurements = j + circuit::tally(operation);
-    let choices = at.choices + circuit::choice_tally(operation);
+    // No choice is taken here, and none is counted.
+    let choices = at.choices;
     Position {
         entry,
         measurements,

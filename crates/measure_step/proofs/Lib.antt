@@ -1,4 +1,5 @@
 -- What the proof of `measure` and those of the runs use.
 pub mod Fits
+pub mod Looked
 pub mod Room
 pub mod Supply

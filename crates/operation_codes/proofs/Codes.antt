@@ -1,27 +1,25 @@
 -- The operation of an accepted entry, by its code.
 -- Assumes nothing.
-use mathlib.Core.Path.{_≡_, refl, sym, ap, _∙_}
+use mathlib.Core.Path.{_≡_, refl, sym, ap, subst, _∙_}
 use mathlib.Core.Logic.{_≢_}
-use mathlib.Core.Bool.{Bool, true, false, _&&_, and-eq-true-iff}
+use mathlib.Core.Bool.{Bool, true, false}
 use mathlib.Core.List.{List, [], _∷_}
 use native.Mathlib.Decide.{ℕ-discrete}
 use Prim.Native.Nat.{ℕ, zero, suc, _+_, _*_, _/_, _<_, _≤_}
 use native.Mathlib.Omega.{arith}
-use lib.Dec.{ltb, leb}
 use lib.ListN.{length, getD}
-use borrow.Author.Tests.{leb-true}
 use Rattle.operation.specs.declared.Operation.{Operation}
 use Rattle.operation.specs.declared.Operation.the-variants.{Measure, Reset, Correct}
 use Rattle.operation.specs.Operation.{allowed}
 use Rattle.operation.specs.Gate.{gatePowers, gateFrame}
 use Rattle.operation.proofs.Operands.{distinct-facts}
-use Rattle.circuit.specs.Circuit.{opAt, gate, kind}
+use Rattle.circuit.specs.Circuit.{opAt, Kind, gate, measures, resets, corrects, kind}
 use Rattle.book_entries.specs.declared.Decoded.{Decoded}
 use Rattle.book_entries.specs.declared.Decoded.the-variants.{Good}
 use Rattle.book_entries.specs.Entry.{bytesOf, goodIf, coded, operationAt}
 use Rattle.book_entries.specs.Fits.{fits}
 use Rattle.book_entries.proofs.Decoding.{decoded-exactly}
-use Rattle.book_entries.proofs.Fitting.{by-fits}
+use Rattle.book_entries.proofs.Fitting.{by-fits, fits-most}
 use Rattle.book.specs.Decoded.{operationIn, operationsOf}
 use Rattle.book.proofs.Lists.{op-at}
 
@@ -53,6 +51,22 @@ gates (suc (suc (suc zero))) b1 b2 b3 l = refl
 gates (suc (suc (suc (suc zero)))) b1 b2 b3 l = refl
 gates (suc (suc (suc (suc (suc zero))))) b1 b2 b3 l = refl
 gates (suc (suc (suc (suc (suc (suc b)))))) b1 b2 b3 l = absurd (omega arith)
+
+-- no gates
+abbrev IsGate : Kind → Type 0
+IsGate gate = Unit {0}
+IsGate (measures q) = ⊥
+IsGate (resets q) = ⊥
+IsGate (corrects t m) = ⊥
+
+no-gate-measures : {q : ℕ} → measures q ≢ gate
+no-gate-measures e = subst IsGate (sym e) tt
+
+no-gate-resets : {q : ℕ} → resets q ≢ gate
+no-gate-resets e = subst IsGate (sym e) tt
+
+no-gate-corrects : {t m : ℕ} → corrects t m ≢ gate
+no-gate-corrects e = subst IsGate (sym e) tt
 
 -- entry k of a body that the reader accepted
 module _ (d n : ℕ) (ops : List ℕ) (k : ℕ) (inside : k < length ops / 4) (h : allowed d n (opAt (operationsOf d n ops) k) ≡ true) where
@@ -92,12 +106,23 @@ module _ (d n : ℕ) (ops : List ℕ) (k : ℕ) (inside : k < length ops / 4) (h
 
   -- a code from 6 up that is neither 6 nor 7 is the correction's
   pub code-most : code ≤ 8
-  unfolding fits
-  code-most = leb-true code 8 (and-eq-true-iff (leb code 8) (ltb (byte 1) n) .0 (and-eq-true-iff (leb code 8 && ltb (byte 1) n) _ .0 fit .0) .0)
+  code-most = fits-most d n (byte 1) (byte 2) (byte 3) code fit
 
   -- any code below 6 is a gate's
   pub code-gate : code < 6 → kind (opAt (operationsOf d n ops) k) ≡ gate
   code-gate l = ap kind is-coded ∙ gates code (byte 1) (byte 2) (byte 3) l
+
+  -- and from 6 up there is none
+  pub code-no-gate : 6 ≤ code → kind (opAt (operationsOf d n ops) k) ≢ gate
+  code-no-gate low = by (ℕ-discrete code 6) (ℕ-discrete code 7)
+    where
+      other : {op : Operation} → opAt (operationsOf d n ops) k ≡ op → kind op ≢ gate → kind (opAt (operationsOf d n ops) k) ≢ gate
+      other e h = rw e h
+
+      by : Dec (code ≡ 6) → Dec (code ≡ 7) → kind (opAt (operationsOf d n ops) k) ≢ gate
+      by (yes e) b = other (code-6 e) no-gate-measures
+      by (no a) (yes e) = other (code-7 e) no-gate-resets
+      by (no a) (no b) = other (code-8 (eight code low code-most a b)) no-gate-corrects
 
   -- none of the gates' codes: the entry does nothing to a frame as a gate
   pub code-rest : (((((Unit {0} × (code ≢ 0)) × (code ≢ 1)) × (code ≢ 2)) × (code ≢ 3)) × (code ≢ 4)) × (code ≢ 5)

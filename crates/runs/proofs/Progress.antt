@@ -17,15 +17,17 @@ use Rattle.runs.proofs.Taken.{reached-none}
 module _ {A : Type 0} (ops : List Operation) (errors : List WeylError) (step : ℕ → A → A) (first : A) where
   pub record RunProgress (k : ℕ) (at : Position) (state : A) : Type 0 where
     pub at-step : AtStep ops errors k at
+    pub taken : at .choices ≡ chosen ops k
     pub so-far : state ≡ stepsFrom step 0 first k
 
   pub progress-start : RunProgress 0 (record { entry = 0; measurements = 0; choices = 0 }) first
   unfolding measured chosen stepsFrom
-  progress-start = record { at-step = record { reached = reached-none errors; count = refl; taken = refl }; so-far = refl }
+  progress-start = record { at-step = record { reached = reached-none errors; count = refl }; taken = refl; so-far = refl }
 
   module _ {k : ℕ} {at : Position} {state : A} (g : RunProgress k at state) where
-    pub progress-more : {next : Position} {after : A} → after ≡ step k state → AtStep ops errors (k + 1) next → RunProgress (k + 1) next after
-    progress-more e s = record { at-step = s; so-far = e ∙ ap (step k) (g .so-far) ∙ sym (run-more step first k) }
+    pub progress-more : {next : Position} {after : A} → after ≡ step k state → AtStep ops errors (k + 1) next → next .choices ≡ chosen ops (k + 1)
+        → RunProgress (k + 1) next after
+    progress-more e s c = record { at-step = s; taken = c; so-far = e ∙ ap (step k) (g .so-far) ∙ sym (run-more step first k) }
 
     pub progress-ends : k ≤ length ops → length ops ≤ k → RunProgress (length ops) at state
     progress-ends a b = rw (le-antisymm b a) g

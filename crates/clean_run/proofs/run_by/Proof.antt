@@ -6,6 +6,7 @@ use native.Mathlib.Nat.{le-antisymm}
 use native.Mathlib.Omega.{arith}
 use denote.Ref.{now}
 use lib.ListN.{length}
+use borrow.Author.Needs.{needs}
 use Rattle.validity.specs.Validity.{Valid}
 use Rattle.circuit.specs.Circuit.{measured, chosen}
 use Rattle.book.specs.Decoded.{operationsOf}
@@ -14,6 +15,7 @@ use Rattle.runs.specs.Run.{stepsFrom}
 use Rattle.runs.specs.Direct.{stateOf}
 use Rattle.runs.proofs.Results.{measured-step, measured-chosen, chosen-step, chosen-most}
 use Rattle.measure_step.proofs.Supply.{supplied, roomy}
+use Rattle.direct_step.proofs.Steps.{gate-is}
 use Rattle.clean_run.proofs.Steps.{soFar, one-more, all-done}
 use Rattle.clean_run.proofs.run_by.Statement.{statement}
 use Rattle.clean_run.proofs.run_by.Tie as tie
@@ -34,48 +36,74 @@ loop-holds : tie.Need-loop-holds Inv-loop μ-loop
 unfolding stepsFrom measured chosen
 loop-holds c = (refl, (refl, refl), omega arith, c .before .before .before .before .before .pre .3, refl, refl)
 
-operate-requires : tie.Need-operate-requires Inv-loop μ-loop
-operate-requires c κs =
-    let l = c .before .before .before in
-    let s = l .before .before .before .before .before .before in
+-- operation k of a turn is in the list
+inside : (c : tie.In-loop Inv-loop μ-loop) → let a = c .before .before .before .before .before .before .before .args in c .before .loop .k < length (operationsOf (a .d) (a .n) (now (a .ops)))
+inside c = omega (arith, c .loop-test .taken, op-count (c .before .before .before .before .before .before .before .args .d) (c .before .before .before .before .before .before .before .args .n) (now (c .before .before .before .before .before .before .before .args .ops)))
+
+counted-requires : tie.Need-counted-requires Inv-loop μ-loop
+counted-requires c κs =
+    let l = c .before in
+    let s = c .before .before .before .before .before .before .before in
     let a = s .args in
     let ops = operationsOf (a .d) (a .n) (now (a .ops)) in
     let i = l .loop .inv in
-    let k-in : l .loop .k < length ops = omega (arith, c .before .before .loop-test .taken, op-count (a .d) (a .n) (now (a .ops))) in (
-      c .before .before .loop-test .taken,
+    let few = chosen-most ops (l .loop .k) in
+    (c .loop-test .taken, s .pre .1 .operations (l .loop .k) (inside c), omega (arith, i .1 .0, measured-chosen ops (l .loop .k), few), omega (arith, i .1 .1, few))
+
+operate-gate-requires : tie.Need-operate-gate-requires Inv-loop μ-loop
+operate-gate-requires c κs =
+    let l = c .before .before .before .before .before in
+    let s = c .before .before .before .before .before .before .before .before .before .before .before in
+    (c .before .before .before .before .loop-test .taken, s .pre .0, s .pre .1 .operations (l .loop .k) (inside (c .before .before .before .before)), l .loop .inv .3)
+
+operate-requires : tie.Need-operate-requires Inv-loop μ-loop
+operate-requires c κs =
+    let l = c .before .before .before .before .before .before in
+    let s = c .before .before .before .before .before .before .before .before .before .before .before .before in
+    let a = s .args in
+    let ops = operationsOf (a .d) (a .n) (now (a .ops)) in
+    let i = l .loop .inv in
+    let k-in = inside (c .before .before .before .before .before) in (
+      c .before .before .before .before .before .loop-test .taken,
       s .pre .0,
       s .pre .1 .operations (l .loop .k) k-in,
       rw (i .1 .0) (s .pre .1 .names (l .loop .k) k-in),
+      c .before .before .if1 .left,
       supplied (s .pre .1) (l .loop .k) k-in (i .1 .1),
       roomy ops (l .loop .results) (omega (arith, i .5, s .pre .2)) (l .loop .k) k-in (i .1 .0),
       i .3,
     )
 
-counted-requires : tie.Need-counted-requires Inv-loop μ-loop
-counted-requires c κs =
-    let t = c .before .before .before .before .before .before .before in
-    let l = t .before in
-    let s = l .before .before .before .before .before .before in
+loop-again : tie.Need-loop-again Inv-loop μ-loop
+loop-again c =
+    let l = c .before .before .before .before .before .before .before .before in
+    let s = c .before .before .before .before .before .before .before .before .before .before .before .before .before .before in
     let a = s .args in
     let ops = operationsOf (a .d) (a .n) (now (a .ops)) in
     let i = l .loop .inv in
-    let k-in : l .loop .k < length ops = omega (arith, t .loop-test .taken, op-count (a .d) (a .n) (now (a .ops))) in
-    let few = chosen-most ops (l .loop .k) in
-    (t .loop-test .taken, s .pre .1 .operations (l .loop .k) k-in, omega (arith, i .1 .0, measured-chosen ops (l .loop .k), few), omega (arith, i .1 .1, few))
+    let done = c .before .before .operate-gate .ensures in
+    let counts = c .before .before .before .before .before .before .counted .ensures in (
+      one-more (a .d) (a .n) ops (now (a .choices)) _ (l .loop .k) (i .1 .1) (i .1 .0) (i .0)
+          (gate-is (a .d) (a .n) (now (a .ops)) (l .loop .k) (now (a .choices)) _ _ _ _ (c .before .before .before .before .before .before .before .loop-test .taken) (s .pre .1 .operations (l .loop .k) (inside (c .before .before .before .before .before .before .before))) (c .before .before .before .before .if1 .taken) (done .0)),
+      (omega (arith, counts .1, i .1 .0, measured-step ops (l .loop .k)), omega (arith, counts .2, i .1 .1, chosen-step ops (l .loop .k))),
+      omega (arith, c .before .before .before .before .before .before .before .loop-test .taken),
+      done .1,
+      omega arith,
+      omega arith,
+    )
 
-loop-again : tie.Need-loop-again Inv-loop μ-loop
-loop-again c =
-    let o = c .before .before .before .before .before in
-    let l = o .before .before .before .before in
-    let a = l .before .before .before .before .before .before .args in
+loop-again-2 : tie.Need-loop-again-2 Inv-loop μ-loop
+loop-again-2 c =
+    let l = c .before .before .before .before .before .before .before .before .before .before .before in
+    let a = c .before .before .before .before .before .before .before .before .before .before .before .before .before .before .before .before .before .args in
     let ops = operationsOf (a .d) (a .n) (now (a .ops)) in
     let i = l .loop .inv in
-    let after = o .operate .ensures in
-    let counts = c .counted .ensures in (
-      one-more (a .d) (a .n) ops (now (a .choices)) _ (l .loop .k) (i .1 .1) (i .1 .0) (i .0) (after .0),
+    let done = c .before .before .before .before .operate .ensures in
+    let counts = c .before .before .before .before .before .before .before .before .before .counted .ensures in (
+      one-more (a .d) (a .n) ops (now (a .choices)) _ (l .loop .k) (i .1 .1) (i .1 .0) (i .0) (done .0),
       (omega (arith, counts .1, i .1 .0, measured-step ops (l .loop .k)), omega (arith, counts .2, i .1 .1, chosen-step ops (l .loop .k))),
-      omega arith,
-      after .1,
+      omega (arith, c .before .before .before .before .before .before .before .before .before .before .loop-test .taken),
+      done .1,
       omega arith,
       omega arith,
     )
@@ -106,11 +134,16 @@ run-by-spec =
     Inv-loop
     μ-loop
     loop-holds
-    operate-requires
+    (λ c. omega arith)
     counted-requires
-    (λ c. omega arith)
-    (λ c. omega arith)
+    (λ c. search needs)
+    (λ c. search needs)
+    operate-gate-requires
+    operate-requires
+    (λ c. omega (arith, c .before .before .before .before .before .before .before .loop-test .taken))
     loop-again
+    (λ c. omega (arith, c .before .before .before .before .before .before .before .before .before .before .loop-test .taken))
+    loop-again-2
     same-length
     same-length-2
     returns)

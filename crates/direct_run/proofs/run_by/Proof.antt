@@ -37,14 +37,14 @@ advance-requires c κs =
     let l = c .before .before .before in
     let s = l .before .before .before .before .before .before .before in
     let i = l .loop .inv in
-    (c .before .before .loop-test .taken, s .pre .0, i .0 .at-step, omega (arith, i .4), i .2)
+    (c .before .before .loop-test .taken, s .pre .0, i .0 .at-step, i .0 .taken, omega (arith, i .4), i .2)
 
 loop-again : tie.Need-loop-again Inv-loop μ-loop
 loop-again c =
     let v = c .before .before .before .before in
     let l = v .before .before .before .before in
     let after = v .advance .ensures in
-    (progress-more _ _ _ _ (l .loop .inv .0) (after .0) (after .1), omega arith, after .2, omega arith, omega arith)
+    (progress-more _ _ _ _ (l .loop .inv .0) (after .0) (after .1) (after .2), omega arith, after .3, omega arith, omega arith)
 
 apply-errors-requires : tie.Need-apply-errors-requires Inv-loop μ-loop
 apply-errors-requires c κs =

@@ -6,9 +6,6 @@ use Prim.Native.Nat.{ℕ, _<_}
 use native.Mathlib.Omega.{arith}
 use borrow.Author.Needs.{needs}
 use borrow.Author.Tests.{ltb-true}
-use Rattle.modular.proofs.Listed.{dimension}
-use Rattle.validity.proofs.Exactly.{valid-tableau}
-use Rattle.validity_laws.proofs.Keeping.{gate-keeps-valid}
 use Rattle.operation.specs.declared.Operation.{Operation}
 use Rattle.operation.specs.declared.Operation.the-variants.{Correct}
 use Rattle.operation.specs.Operation.{named}
@@ -25,44 +22,35 @@ measure-requires : tie.Need-measure-requires
 measure-requires c κs =
     let s = c .before .before .before .before .before .before .before .before .before in
     let e = c .before .before .before .operation .given .1 in
-    (s .pre .0, ltb-true _ _ (rw e at (s .pre .1)), rw e at (s .pre .3), omega (arith, rw e at (s .pre .4)), s .pre .5)
+    (s .pre .0, ltb-true _ _ (rw e at (s .pre .1)), rw e at (s .pre .4), omega (arith, rw e at (s .pre .5)), s .pre .6)
 
 reset-requires : tie.Need-reset-requires
 reset-requires c κs =
     let s = c .before .before .before .before .before .before .before .before in
     let e = c .before .before .operation2 .given .1 in
-    (s .pre .0, ltb-true _ _ (rw e at (s .pre .1)), rw e at (s .pre .3), s .pre .5)
+    (s .pre .0, ltb-true _ _ (rw e at (s .pre .1)), rw e at (s .pre .4), s .pre .6)
 
 correct-requires : tie.Need-correct-requires
 correct-requires c κs =
     let s = c .before .before .before .before .before .before .before .before .before in
     let e = c .before .before .before .operation3 .given .1 in
-    (s .pre .0, ltb-true _ _ (rw e at (s .pre .1)), omega (arith, earlier e (s .pre .2), s .pre .4), s .pre .5)
+    (s .pre .0, ltb-true _ _ (rw e at (s .pre .1)), omega (arith, earlier e (s .pre .2), s .pre .5), s .pre .6)
 
 returns : tie.Need-returns
 unfolding directKind
-returns c = (rw (c .before .before .before .before .before .before .before .before .operation .given .1) (c .before .before .before .before .measure .ensures .0), c .before .before .before .before .measure .ensures .1, search needs)
+returns c = (rw (c .before .before .before .before .before .before .before .before .operation .given .1) (c .before .before .before .before .measure .ensures .0), c .before .before .before .before .measure .ensures .1)
 
 returns-2 : tie.Need-returns-2
 unfolding directKind
-returns-2 c = (rw (c .before .before .before .before .before .operation2 .given .1, c .before .before .reset .ensures .0), c .before .before .reset .ensures .1, search needs)
+returns-2 c = (rw (c .before .before .before .before .before .operation2 .given .1, c .before .before .reset .ensures .0), c .before .before .reset .ensures .1)
 
 returns-3 : tie.Need-returns-3
 unfolding directKind
-returns-3 c = (rw (c .before .before .before .before .before .before .operation3 .given .1, c .before .before .correct .ensures .0), c .before .before .correct .ensures .1, search needs)
+returns-3 c = (rw (c .before .before .before .before .before .before .operation3 .given .1, c .before .before .correct .ensures .0), c .before .before .correct .ensures .1)
 
-gate-rows-requires : tie.Need-gate-rows-requires
-gate-rows-requires c κs = let s = c .before .before .before .before .before .before in (s .pre .0 .qudits, s .pre .1, s .pre .0 .made, valid-tableau _ _ _ (s .pre .5))
-
+-- a gate does not come here
 returns-4 : tie.Need-returns-4
-unfolding directKind
-returns-4 c =
-    let s = c .before .before .before .before .before .before .before .before .before in
-    let e = c .before .before .gate-rows .ensures in (
-      rw (is-gate (s .args .step .operation) (c .before .before .before .before .match .keys4), e),
-      rw e (gate-keeps-valid _ _ (dimension _ (s .pre .0 .dimension)) (s .args .step .operation) (s .pre .1) _ (s .pre .5)),
-      search needs,
-    )
+returns-4 c = let s = c .before .before .before .before .before in absurd (s .pre .3 (is-gate (s .args .step .operation) (c .match .keys4)))
 
 pub perform-spec : {M : Type 1} → statement M
 perform-spec =
@@ -74,7 +62,6 @@ perform-spec =
     reset-requires
     (λ c. search needs)
     correct-requires
-    gate-rows-requires
     (λ c. search needs)
     (λ c. search needs)
     returns
@@ -83,5 +70,4 @@ perform-spec =
     (λ c. search needs)
     (λ c. search needs)
     returns-3
-    (λ c. search needs)
     returns-4)

@@ -7,11 +7,11 @@ use denote.Ref.{now}
 use lib.ListN.{length}
 use borrow.Author.Needs.{needs}
 use Rattle.modular.proofs.Listed.{dimension}
-use Rattle.circuit.specs.Circuit.{tally, choiceTally}
+use Rattle.circuit.specs.Circuit.{tally}
 use Rattle.book.specs.Decoded.{operationsOf}
 use Rattle.book.proofs.Lists.{op-count}
 use Rattle.runs.specs.Raised.{frameBefore}
-use Rattle.runs.proofs.Results.{measured-step, measured-in, chosen-step, chosen-most}
+use Rattle.runs.proofs.Results.{measured-step, measured-in}
 use Rattle.frame_carry.proofs.advance.Statement.{statement}
 use Rattle.frame_carry.proofs.advance.Tie as tie
 
@@ -49,29 +49,19 @@ add-measurements c =
     let in-list : a .k < length ops = omega (arith, s .pre .0, op-count (a .d) (a .n) (now (a .ops))) in
     omega (arith, c .tally .ensures .0, s .pre .2 .count, s .pre .1 .room, measured-in ops (a .k) in-list, ap tally (c .before .before .before .before .before .before .before .before .before .before .before .operation-of .ensures))
 
-add-choices : tie.Need-add-choices
-add-choices c =
-    let s = c .before .before .before .before .before .before .before .before .before .before .before .before .before .before .before .before .before .before .before .before .before .before .before in
-    let a = s .args in
-    omega (arith, c .before .choice-tally .ensures .1, s .pre .2 .taken, chosen-most (operationsOf (a .d) (a .n) (now (a .ops))) (a .k), s .pre .0)
-
 returns : tie.Need-returns
 unfolding frameBefore
 returns c =
-    let s = c .before .before .before .before .before .before .before .before .before .before .before .before .before .before .before .before .before .before .before .before .before .before .before in
+    let s = c .before .before .before .before .before .before .before .before .before .before .before .before .before .before .before .before .before .before .before .before .before in
     let a = s .args in
     let ops = operationsOf (a .d) (a .n) (now (a .ops)) in
-    let e = c .before .before .before .before .before .before .before .before .before .before .before .before .before .operation-of .ensures in
-    let struck = c .before .before .before .before .before .before .before .before .before .before .before .before .before .before .before .before .apply-errors .ensures in
-    let after = c .before .before .before .before .before .before .before .before .before .perform .ensures in (
+    let e = c .before .before .before .before .before .before .before .before .before .before .before .operation-of .ensures in
+    let struck = c .before .before .before .before .before .before .before .before .before .before .before .before .before .before .apply-errors .ensures in
+    let after = c .before .before .before .before .before .before .before .perform .ensures in (
       rw (← e, ← struck .0) (after .0),
       rw (← e, ← struck .0, ← s .pre .2 .count) (after .1),
       rw (← e, ← struck .0, ← s .pre .2 .count) (after .2),
-      record {
-        reached = struck .3;
-        count = omega (arith, c .before .before .tally .ensures .0, s .pre .2 .count, measured-step ops (a .k), ap tally e);
-        taken = omega (arith, c .before .choice-tally .ensures .0, s .pre .2 .taken, chosen-step ops (a .k), ap choiceTally e);
-      },
+      record { reached = struck .3; count = omega (arith, c .tally .ensures .0, s .pre .2 .count, measured-step ops (a .k), ap tally e) },
       after .3,
     )
 
@@ -84,8 +74,6 @@ advance-spec =
     perform-requires
     (λ c κs. search needs)
     add-measurements
-    (λ c κs. search needs)
-    add-choices
     (λ c. search needs)
     (λ c. search needs)
     (λ c. search needs)
