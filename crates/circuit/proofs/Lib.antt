@@ -1,2 +1,3 @@
--- Laws of circuits.
+-- Laws of circuits; worked cases.
 pub mod Gates
+pub mod Cases
