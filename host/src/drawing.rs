@@ -26,7 +26,8 @@
 //! Time goes from left to right: on each line the operations on a qudit stand in the order of the
 //! circuit, and an error stands where it strikes. Each is put into the leftmost column that is free on
 //! its line, for a gate on two qudits on both their lines and all between them. Two such gates in one
-//! column never touch, so that one sees which two symbols belong together.
+//! column never touch, so that one sees which two symbols belong together. A correction stands behind
+//! the measurement that it names.
 //!
 //! # Symbols
 //!
@@ -36,15 +37,16 @@
 #![doc = include_str!("legend.txt")]
 //! ```
 //!
-//! The choice of a measurement is not drawn: it is no part of the circuit, and a certain measurement
-//! has no use for it. The [text form](crate::text) has it.
+//! The choice of a measurement or a reset is not drawn: it is no part of the circuit, and where the
+//! outcome is certain it has no use. The [text form](crate::text) has it.
 //!
 //! # Books that a run refuses
 //!
 //! These are drawn as well as they can be. An operation or an error on a qudit that does not exist is
 //! listed below the lines, and so is a gate on one qudit twice. An error stands before the operation
 //! that it is placed before, also where the order of entries is another, and at the end if there is
-//! no such operation. The last line is the refusal.
+//! no such operation. A correction that names no earlier measurement stands where it can. The last
+//! line is the refusal.
 
 use crate::book::{Book, Operation};
 use crate::tableau::Power;
@@ -63,14 +65,19 @@ impl Book {
         let mut errors = self.errors().to_vec();
         errors.sort_by_key(|error| error.place); // those of an accepted book are in order
         let mut errors = errors.into_iter().peekable();
-        let (mut measured, end) = (0, self.operations().len());
+        // The columns behind the measurements so far.
+        let mut measured = Vec::new();
+        let end = self.operations().len();
         for k in 0..=end {
             while let Some(error) = errors.next_if(|e| k == end || usize::from(e.place) <= k) {
-                layout.put(&[(error.qudit, Symbol::Error(error.p, error.s))], &error);
+                layout.put(&[(error.qudit, Symbol::Error(error.p, error.s))], 0, &error);
             }
             if let Some(&operation) = self.operations().get(k) {
-                layout.put(&symbols(operation, measured), &operation);
-                measured += usize::from(matches!(operation, Operation::Measure { .. }));
+                let from = earliest(operation, &measured);
+                let behind = layout.put(&symbols(operation, measured.len()), from, &operation);
+                if let Operation::Measure { .. } = operation {
+                    measured.push(behind);
+                }
             }
         }
         let refusal = self.write().err();
@@ -181,17 +188,22 @@ impl Layout {
         format!("q{line:<width$} {WIRE}")
     }
 
-    /// Puts the symbols of an operation or an error into one column, if their qudits are there and are
-    /// different.
-    fn put(&mut self, symbols: &[(u8, Symbol)], entry: &dyn fmt::Display) {
+    /// Puts the symbols of an operation or an error into one column, this one or a later one, if their
+    /// qudits are there and are different. Returns the next column, or the given one if they are not.
+    fn put(
+        &mut self,
+        symbols: &[(u8, Symbol)],
+        from: usize,
+        entry: &dyn fmt::Display,
+    ) -> usize {
         let lines = || symbols.iter().map(|&(qudit, _)| usize::from(qudit));
         let (first, last) = (lines().min().unwrap_or(0), lines().max().unwrap_or(0));
         let twice = symbols.len() == 2 && first == last;
         if twice || last >= self.lines() {
             self.notes.push(format!("not drawn: {entry}"));
-            return;
+            return from;
         }
-        let place = self.place(first, last);
+        let place = self.place(first, last, from);
         if place == self.columns.len() {
             self.columns.push(Column::of_lines(self.lines()));
         }
@@ -202,11 +214,13 @@ impl Layout {
             column.width = column.width.max(symbol.to_string().chars().count());
             self.behind[line] = place + 1;
         }
+        place + 1
     }
 
-    /// The leftmost column for an operation on the first and the last of these lines.
-    fn place(&self, first: usize, last: usize) -> usize {
-        let behind = self.behind[first].max(self.behind[last]);
+    /// The leftmost column, from this one on, for an operation on the first and the last of these
+    /// lines.
+    fn place(&self, first: usize, last: usize, from: usize) -> usize {
+        let behind = self.behind[first].max(self.behind[last]).max(from);
         let mut places = behind..self.columns.len();
         places
             .find(|&place| self.columns[place].has_room(first, last))
@@ -266,6 +280,9 @@ enum Symbol {
     Crossing,
     Multiplier(u8),
     Measurement(usize),
+    Reset,
+    /// By the measurement of this number.
+    Correction(u16),
     Error(u8, u8),
 }
 
@@ -279,6 +296,8 @@ impl fmt::Display for Symbol {
             Symbol::Crossing => write!(f, "{CROSSING}"),
             Symbol::Multiplier(u) => write!(f, "*{u}"),
             Symbol::Measurement(number) => write!(f, "M{number}"),
+            Symbol::Reset => write!(f, "R"),
+            Symbol::Correction(number) => write!(f, "X^-M{number}"),
             Symbol::Error(0, 0) => write!(f, "!I"),
             Symbol::Error(p, 0) => write!(f, "!{}", Power('X', p)),
             Symbol::Error(0, s) => write!(f, "!{}", Power('Z', s)),
@@ -301,5 +320,15 @@ fn symbols(operation: Operation, measured: usize) -> Vec<(u8, Symbol)> {
         Operation::Swap { c, t } => pair(c, '×', t, '×', 1),
         Operation::Multiplier { q, u } => vec![(q, Symbol::Multiplier(u))],
         Operation::Measure { q } => vec![(q, Symbol::Measurement(measured))],
+        Operation::Reset { q } => vec![(q, Symbol::Reset)],
+        Operation::Correct { t, m } => vec![(t, Symbol::Correction(m))],
+    }
+}
+
+/// The first column in which an operation may stand, by those behind the measurements before it.
+fn earliest(operation: Operation, measured: &[usize]) -> usize {
+    match operation {
+        Operation::Correct { m, .. } => measured.get(usize::from(m)).copied().unwrap_or(0),
+        _ => 0,
     }
 }

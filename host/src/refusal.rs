@@ -33,10 +33,10 @@ pub enum Refusal {
         /// end is wrong. The writer names the first such body, and never 3.
         entry: usize,
     },
-    /// 5: an entry is not one of the seven operations, of which
+    /// 5: an entry is not one of the nine operations, of which
     /// [`Operation::to_bytes`](crate::book::Operation::to_bytes) has the table. The last byte counts
     /// too: a multiplier's factor, or how often another gate is applied, where 0 means once and 1 is
-    /// bad.
+    /// bad. So does the measurement that a correction names: it must come earlier in the book.
     Operation {
         /// The first bad operation.
         index: usize,
@@ -53,9 +53,11 @@ pub enum Refusal {
         /// The first shot with a bad error, counted from 0.
         shot: usize,
     },
-    /// 7: choices and measurements differ in number, or a choice is not below the dimension.
+    /// 7: choices differ in number from measurements and resets, which have one each, or a choice is
+    /// not below the dimension.
     Choice {
-        /// The smaller of the two counts where they differ, else the first bad choice.
+        /// The smaller of the two counts where they differ, that of choices and that of measurements
+        /// and resets together; else the first bad choice.
         index: usize,
     },
     /// 8: a lent buffer is shorter than it must be. A tableau has to have
@@ -68,9 +70,10 @@ pub enum Refusal {
     /// 11: the tray has more than 4,096 shots, the errors of one are not whole entries or are more
     /// than 2,048, or it is not as long as its table of contents says.
     Tray,
-    /// 12, by the mirror alone: the book is good and has a measurement, which no operation undoes.
+    /// 12, by the mirror alone: the book is good and has a measurement, a reset or a correction, which
+    /// no operation undoes.
     Measurement {
-        /// The first measurement, by its index among all operations.
+        /// The first of these, by its index among all operations.
         index: usize,
     },
 }
@@ -125,7 +128,7 @@ impl Refusal {
                 "this body (0 operations, 1 errors, 2 choices) is not of whole entries or has too many, or its entry of the table of contents has a wrong kind, zero byte or offset"
             }
             Refusal::Operation { .. } => {
-                "this entry is not one of the seven operations on the book's qudits, or its last byte is no factor or power that the operation may have"
+                "this entry is not one of the nine operations on the book's qudits, its last byte is no factor or power that the operation may have, or it corrects by a measurement that does not come earlier in the book"
             }
             Refusal::ErrorEntry { .. } => {
                 "this error is placed after the end or before the previous error, or its qudit or a power is too large"
@@ -134,7 +137,7 @@ impl Refusal {
                 "in this shot of the tray an error is placed after the end or before the previous error, or its qudit or a power is too large"
             }
             Refusal::Choice { .. } => {
-                "choices and measurements differ in number from here on, or this choice is not below the dimension"
+                "choices differ in number from measurements and resets, which have one each, from here on, or this choice is not below the dimension"
             }
             Refusal::ShortBuffer => {
                 "a buffer is shorter than the call needs (a tableau has two bytes, d and n, before its rows)"
@@ -146,7 +149,7 @@ impl Refusal {
                 "not a tray: it has more than 4,096 shots, the errors of a shot are not whole entries or are more than 2,048, or it is not as long as its table of contents says"
             }
             Refusal::Measurement { .. } => {
-                "this operation is the book's first measurement, and a circuit with a measurement has no mirror"
+                "this operation is the book's first measurement, reset or correction, and a circuit that has one of these has no mirror"
             }
         }
     }
@@ -231,6 +234,26 @@ mod tests {
         let words = Refusal::Measurement { index: 1 }.meaning();
         assert!(words.starts_with("this operation is"));
         assert!(words.contains("no mirror"));
+    }
+
+    /// Resets and corrections are named where they count.
+    #[test]
+    fn the_words_name_resets_and_corrections() {
+        let says = |refusal: Refusal, words: &str| refusal.meaning().contains(words);
+        let operation = Refusal::Operation { index: 1 };
+        assert!(says(operation, "nine operations"));
+        assert!(says(
+            operation,
+            "corrects by a measurement that does not come earlier"
+        ));
+        assert!(says(
+            Refusal::Choice { index: 1 },
+            "measurements and resets"
+        ));
+        assert!(says(
+            Refusal::Measurement { index: 1 },
+            "measurement, reset or correction"
+        ));
     }
 
     /// A good tableau that is fed to another book is refused by 9: the words say so, and where the

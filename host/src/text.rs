@@ -20,6 +20,9 @@
 //!
 //! Words may be in small or large letters, and a power of 1 need not be written.
 //!
+//! A correction names a measurement by its number, as the listing of a run and a drawing number them:
+//! 0 is the first line `measure`, and resets are not counted. It must stand before the correction.
+//!
 //! What can be read is checked by the proved writer, so that a text is refused exactly if a run
 //! would refuse its bytes, by the same number.
 
@@ -31,7 +34,8 @@ use std::fmt;
 use std::str::FromStr;
 
 const HEADER: &str = "'qudits N dimension D'";
-const OPERATION: &str = "fourier, phase, sum, cz, swap, multiplier, measure or error";
+const OPERATION: &str =
+    "fourier, phase, sum, cz, swap, multiplier, measure, reset, correct or error";
 
 /// Reads a circuit in [its text form](crate::text).
 impl FromStr for Book {
@@ -48,7 +52,7 @@ impl FromStr for Book {
         }
         match circuit.book.write() {
             Ok(_) => Ok(circuit.book),
-            Err(refusal) => Err(circuit.origin(refusal).unwrap_or(&header).refused(refusal)),
+            Err(refusal) => Err(circuit.refused(refusal, &header)),
         }
     }
 }
@@ -69,6 +73,13 @@ fn read_header(line: &mut Line) -> Result<Book, TextError> {
 fn byte(line: &mut Line, expected: &str) -> Result<u8, TextError> {
     let number = line.number(expected)?;
     Ok(u8::try_from(number).unwrap_or(u8::MAX))
+}
+
+/// A number that is too large for two bytes comes as 65,535. No circuit has so many measurements, so
+/// that the same refusal follows.
+fn measurement(line: &mut Line) -> Result<u16, TextError> {
+    let number = line.number("the measurement's number")?;
+    Ok(u16::try_from(number).unwrap_or(u16::MAX))
 }
 
 /// A circuit while it is read, with the lines that its entries come from.
@@ -102,13 +113,31 @@ impl<'a> Circuit<'a> {
         }
         self.operations.push(index);
         if line.take("measure") {
-            let q = byte(line, "the qudit's number")?;
+            let (q, choice) = chosen(line)?;
             self.choices.push(index);
-            self.book.measure(q, choice(line)?);
+            self.book.measure(q, choice);
+        } else if line.take("reset") {
+            let (q, choice) = chosen(line)?;
+            self.choices.push(index);
+            self.book.reset(q, choice);
+        } else if line.take("correct") {
+            let t = byte(line, "the qudit's number")?;
+            line.expect("by")?;
+            self.book.correct(t, measurement(line)?);
         } else {
             self.book.operation(gate(line)?);
         }
         Ok(())
+    }
+
+    /// The refusal, with the line that it is about and what is wrong there.
+    fn refused(&self, refusal: Refusal, header: &Line) -> TextError {
+        let line = self.origin(refusal).unwrap_or(header);
+        let meaning = not_earlier(&self.book, refusal);
+        line.refused(
+            refusal,
+            meaning.unwrap_or_else(|| refusal.meaning().to_string()),
+        )
     }
 
     /// The line that a refusal is about, if it is not the header.
@@ -124,6 +153,31 @@ impl<'a> Circuit<'a> {
         };
         index.map(|&index| &self.origins[index])
     }
+}
+
+/// What is wrong with a refused operation, if it is a correction that names no earlier measurement.
+fn not_earlier(book: &Book, refusal: Refusal) -> Option<String> {
+    let Refusal::Operation { index } = refusal else {
+        return None;
+    };
+    let (before, rest) = book.operations().split_at_checked(index)?;
+    let Some(&Operation::Correct { m, .. }) = rest.first() else {
+        return None;
+    };
+    let measures = |o: &&Operation| matches!(o, Operation::Measure { .. });
+    let earlier = before.iter().filter(measures).count();
+    // A larger number was read as this one.
+    let or_later = if m == u16::MAX { " or later" } else { "" };
+    let come = match earlier {
+        0 => "no measurement comes".to_string(),
+        1 => "1 measurement comes".to_string(),
+        more => format!("{more} measurements come"),
+    };
+    let words = format!(
+        "it names measurement {m}{or_later}, and {come} before it (they are counted from 0, without \
+         resets)"
+    );
+    (usize::from(m) >= earlier).then_some(words)
 }
 
 fn gate(line: &mut Line) -> Result<Operation, TextError> {
@@ -172,11 +226,12 @@ fn power(line: &mut Line) -> Result<u8, TextError> {
     }
 }
 
-/// `choose M`, or nothing for 0.
-fn choice(line: &mut Line) -> Result<u8, TextError> {
+/// A qudit and its choice: `choose M`, or nothing for 0.
+fn chosen(line: &mut Line) -> Result<(u8, u8), TextError> {
+    let q = byte(line, "the qudit's number")?;
     match line.take("choose") {
-        true => byte(line, "the choice"),
-        false => Ok(0),
+        true => Ok((q, byte(line, "the choice")?)),
+        false => Ok((q, 0)),
     }
 }
 
@@ -200,8 +255,8 @@ fn error(line: &mut Line) -> Result<(u8, u8, u8), TextError> {
 /// Writes [the text form](crate::text). Of an accepted book it is read back as the same book.
 ///
 /// A book under construction may have what no text says: errors in another order than that of their
-/// places or placed after the end, choices without a measurement or missing ones. These come in words
-/// that are not read back, so that no such book is taken for another one.
+/// places or placed after the end, choices without a measurement or a reset or missing ones. These
+/// come in words that are not read back, so that no such book is taken for another one.
 impl fmt::Display for Book {
     fn fmt(&self, f: &mut fmt::Formatter<'_>) -> fmt::Result {
         writeln!(f, "qudits {} dimension {}", self.qudits(), self.dimension())?;
@@ -212,7 +267,7 @@ impl fmt::Display for Book {
                 writeln!(f, "{error}")?;
             }
             write!(f, "{operation}")?;
-            if let Operation::Measure { .. } = operation {
+            if let Operation::Measure { .. } | Operation::Reset { .. } = operation {
                 match choices.next() {
                     Some(0) => {}
                     Some(choice) => write!(f, " choose {choice}")?,
@@ -228,11 +283,11 @@ impl fmt::Display for Book {
                 false => writeln!(f, "{error} at place {}", error.place)?,
             }
         }
-        choices.try_for_each(|choice| writeln!(f, "choice {choice} without a measurement"))
+        choices.try_for_each(|choice| writeln!(f, "choice {choice} without a measurement or a reset"))
     }
 }
 
-/// Writes the line of a circuit's text, a measurement without its choice.
+/// Writes the line of a circuit's text, a measurement or a reset without its choice.
 ///
 /// ```
 /// use cagvost::book::Operation;
@@ -240,6 +295,7 @@ impl fmt::Display for Book {
 /// assert_eq!(Operation::PhaseGate { q: 2, times: 3 }.to_string(), "phase 2 ^3");
 /// assert_eq!(Operation::Sum { c: 0, t: 1, times: 1 }.to_string(), "sum 0 1");
 /// assert_eq!(Operation::Multiplier { q: 1, u: 2 }.to_string(), "multiplier 1 by 2");
+/// assert_eq!(Operation::Correct { t: 1, m: 0 }.to_string(), "correct 1 by 0");
 /// ```
 impl fmt::Display for Operation {
     fn fmt(&self, f: &mut fmt::Formatter<'_>) -> fmt::Result {

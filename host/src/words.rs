@@ -18,6 +18,12 @@ use std::fmt;
 /// let error = "qudits 2 dimension 3\nsum 0 2".parse::<Book>().unwrap_err();
 /// assert!(error.to_string().starts_with("line 2, 'sum 0 2': refused 5 at 0: "));
 /// assert!(matches!(error, TextError::Refused { line: 2, .. }));
+/// let error = "qudits 2 dimension 3\nmeasure 0\ncorrect 1 by 1".parse::<Book>().unwrap_err();
+/// assert_eq!(
+///     error.to_string(),
+///     "line 3, 'correct 1 by 1': refused 5 at 1: it names measurement 1, and 1 measurement comes \
+///      before it (they are counted from 0, without resets)"
+/// );
 /// ```
 #[derive(Clone, Debug, PartialEq, Eq)]
 #[non_exhaustive]
@@ -41,6 +47,9 @@ pub enum TextError {
         text: String,
         /// Why, with the place that the bytes of the circuit would have.
         refusal: Refusal,
+        /// What is wrong, in words: [`Refusal::meaning`], but of a correction that names no earlier
+        /// measurement, which one it names and how many come before it.
+        meaning: String,
     },
 }
 
@@ -69,7 +78,14 @@ impl fmt::Display for TextError {
                 line,
                 text,
                 refusal,
-            } => write!(f, "line {line}, '{text}': {refusal}"),
+                meaning,
+            } => {
+                let (number, place) = (refusal.number(), refusal.place());
+                write!(
+                    f,
+                    "line {line}, '{text}': refused {number} at {place}: {meaning}"
+                )
+            }
         }
     }
 }
@@ -191,12 +207,13 @@ impl<'a> Line<'a> {
         }
     }
 
-    /// The refusal of what this line says.
-    pub(crate) fn refused(&self, refusal: Refusal) -> TextError {
+    /// The refusal of what this line says, with what it means here.
+    pub(crate) fn refused(&self, refusal: Refusal, meaning: String) -> TextError {
         TextError::Refused {
             line: self.number,
             text: shown(self.text()),
             refusal,
+            meaning,
         }
     }
 }

@@ -45,7 +45,7 @@ impl Share {
             results: vec![0; crate::results_len(book.measurements())],
             sampler,
             unused_errors: book.errors().len(),
-            model: fingerprint(model.to_string().as_bytes()),
+            model: fingerprint(model.told_apart(book).to_string().as_bytes()),
         };
         crate::layer(&mut share.tableau, d, n).map_err(ShareError::Refused)?;
         let mut end = share.tableau.clone();

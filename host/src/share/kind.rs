@@ -29,11 +29,15 @@ pub enum Kind {
     Multiplier,
     /// A measurement.
     Measure,
+    /// A reset.
+    Reset,
+    /// A correction by an earlier result.
+    Correct,
 }
 
 impl Kind {
     /// All kinds, in the order in which they are declared.
-    pub const ALL: [Kind; 7] = [
+    pub const ALL: [Kind; 9] = [
         Kind::Fourier,
         Kind::Phase,
         Kind::Sum,
@@ -41,6 +45,8 @@ impl Kind {
         Kind::Swap,
         Kind::Multiplier,
         Kind::Measure,
+        Kind::Reset,
+        Kind::Correct,
     ];
 
     /// The kind of an operation, however often it applies its gate.
@@ -53,6 +59,8 @@ impl Kind {
             Operation::Swap { .. } => Kind::Swap,
             Operation::Multiplier { .. } => Kind::Multiplier,
             Operation::Measure { .. } => Kind::Measure,
+            Operation::Reset { .. } => Kind::Reset,
+            Operation::Correct { .. } => Kind::Correct,
         }
     }
 
@@ -66,6 +74,8 @@ impl Kind {
             Kind::Swap => "swap",
             Kind::Multiplier => "multiplier",
             Kind::Measure => "measure",
+            Kind::Reset => "reset",
+            Kind::Correct => "correct",
         }
     }
 }

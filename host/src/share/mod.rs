@@ -45,7 +45,11 @@
 //! compared with that of the run without errors. At a free measurement the run without errors takes
 //! the circuit's choice, and the shot that choice raised by the X power which its errors have brought
 //! to the qudit. So an X error before a free measurement counts as harm, to the state and to the
-//! result, although every outcome was as likely. The choices themselves change no count.
+//! result, although every outcome was as likely. A free reset takes its choice in the same way. The
+//! choices themselves change no count.
+//!
+//! A correction by the result of a measurement uses the result that the shot has: where it undoes an
+//! error that this measurement has found, the state is unharmed, and the result is not.
 //!
 //! # Where the errors come from
 //!

@@ -2,6 +2,7 @@
 
 use super::kind::Kind;
 use super::rates::{PROBABILITY, Probability, Rates};
+use crate::book::Book;
 use crate::words::{self, Line, TextError};
 use std::error::Error;
 use std::fmt;
@@ -17,14 +18,16 @@ use std::str::FromStr;
 /// sum         uniform 0.01
 /// cz          x 0.004 z 0.01
 /// measure     x 0.02
+/// reset       x 0.005
 /// others      0
 /// ```
 ///
 /// A probability alone means `uniform`; of `x` and `z` one may be missing, and is 0 then. `others`
 /// stands for every kind that has no line. `#` begins a comment.
 ///
-/// Each qudit that an operation acts on is struck for itself: after a gate, and before a
-/// measurement. An entry that applies its gate several times is one operation.
+/// Each qudit that an operation acts on is struck for itself: before a measurement, whose result then
+/// shows it, and after every other operation. So a power of X at a reset means that the qudit is left
+/// at another level than 0. An entry that applies its gate several times is one operation.
 ///
 /// ```
 /// use cagvost::share::{ErrorModel, Kind, Probability, Rates};
@@ -40,14 +43,14 @@ use std::str::FromStr;
 #[derive(Clone, Debug, PartialEq)]
 pub struct ErrorModel {
     /// In the order of [`Kind::ALL`].
-    rates: [Option<Rates>; 7],
+    rates: [Option<Rates>; Kind::ALL.len()],
 }
 
 impl ErrorModel {
     /// Every kind is struck with this probability, by each Weyl error equally likely.
     pub fn uniform(p: Probability) -> ErrorModel {
         ErrorModel {
-            rates: [Some(Rates::Uniform(p)); 7],
+            rates: [Some(Rates::Uniform(p)); Kind::ALL.len()],
         }
     }
 
@@ -89,6 +92,23 @@ impl ErrorModel {
     }
 }
 
+impl ErrorModel {
+    /// The model by which parts of a share are told apart: without rates for resets or corrections, if
+    /// the circuit has none.
+    ///
+    /// There were models before there were these two kinds, and `others` means them too since. A seed
+    /// still gives the same errors, so that parts from before and after add up.
+    pub(super) fn told_apart(&self, book: &Book) -> ErrorModel {
+        let mut model = self.clone();
+        for kind in [Kind::Reset, Kind::Correct] {
+            if book.operations().iter().all(|&o| Kind::of(o) != kind) {
+                model.rates[kind as usize] = None;
+            }
+        }
+        model
+    }
+}
+
 /// Why a model cannot be scaled.
 #[derive(Clone, Copy, Debug, PartialEq)]
 #[non_exhaustive]
@@ -124,7 +144,8 @@ impl fmt::Display for ScaleError {
 
 impl Error for ScaleError {}
 
-const KINDS: &str = "fourier, phase, sum, cz, swap, multiplier, measure or others";
+const KINDS: &str =
+    "fourier, phase, sum, cz, swap, multiplier, measure, reset, correct or others";
 
 /// Where the rates of all other kinds stand while a model is read.
 const OTHERS: usize = Kind::ALL.len();
@@ -227,7 +248,7 @@ mod tests {
     fn the_text_of_the_documents() {
         let model = read(
             "# a comment\nfourier 0.001\n\n  SUM uniform 0.01\ncz x 0.004 z 0.01 # both\n\
-             measure x 0.02\nothers 0\n",
+             measure x 0.02\nreset x 0.005\nothers 0\n",
         );
         let separate = |x, z| Rates::Separate { x: p(x), z: p(z) };
         for (kind, rates) in [
@@ -238,6 +259,8 @@ mod tests {
             (Kind::Swap, Rates::Uniform(p(0.0))),
             (Kind::Multiplier, Rates::Uniform(p(0.0))),
             (Kind::Measure, separate(0.02, 0.0)),
+            (Kind::Reset, separate(0.005, 0.0)),
+            (Kind::Correct, Rates::Uniform(p(0.0))),
         ] {
             assert_eq!(model.rates(kind), Some(rates), "{kind}");
         }

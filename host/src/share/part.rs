@@ -15,7 +15,8 @@ use std::str::FromStr;
 pub struct Job {
     /// The fingerprint of the circuit without its errors, whose choices count too.
     pub circuit: u64,
-    /// The fingerprint of the model.
+    /// The fingerprint of the model. Its rates for resets and for corrections count only if the
+    /// circuit has some.
     pub model: u64,
     /// The seed.
     pub seed: u64,

@@ -88,7 +88,7 @@ impl Sampler {
         for (k, &operation) in book.operations().iter().enumerate() {
             let kind = Kind::of(operation);
             let rates = model.rates(kind).ok_or(ShareError::NoRate(kind))?;
-            // After a gate and before a measurement: so places never fall from site to site.
+            // Before a measurement and after all else: so places never fall from site to site.
             let place = narrow(k + usize::from(kind != Kind::Measure));
             for qudit in operation.qudits() {
                 let mut add = |p, channel| {

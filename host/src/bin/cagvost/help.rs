@@ -116,7 +116,8 @@ pub const MIRROR: &str = concat!(
 usage: cagvost mirror CIRCUIT [-o FILE]
 
 Writes the mirror of the circuit as text, to FILE or to standard output: its operations in reversed
-order, each turned into its inverse, without errors. A circuit with a measurement has none.
+order, each turned into its inverse, without errors. A circuit with a measurement, a reset or a
+correction has none.
 
 ",
     circuits!(),
@@ -131,14 +132,16 @@ Draws errors for many shots of the circuit, runs each from the zero tableau, and
 unharmed (they end in the state of the run without errors), the share of these with its 95 % Wilson
 interval, and the same for the shots in which every result is that of the run without errors. A free
 measurement takes the circuit's choice, raised by the X power that the errors have brought to its
-qudit: so an X error before it counts as harm, although every outcome was as likely.
+qudit: so an X error before it counts as harm, although every outcome was as likely. A correction
+takes the result that the shot has.
 
   --error P       each operation has an error on each of its qudits with probability P: one of the
-                  d² − 1 Weyl errors X^p Z^s, each equally likely. It strikes after a gate and
-                  before a measurement.
+                  d² − 1 Weyl errors X^p Z^s, each equally likely. It strikes before a measurement
+                  and after every other operation.
   --model FILE    such a probability for each kind of operation, one line each: 'sum 0.01' as above,
-                  'cz x 0.004 z 0.01' for a power of X and, independently, one of Z. 'others 0.001'
-                  stands for the kinds that are not named.
+                  'cz x 0.004 z 0.01' for a power of X and, independently, one of Z. Kinds are
+                  named as in a circuit: 'reset x 0.005'. 'others 0.001' stands for the kinds that
+                  are not named.
   --shots N       how many shots (100000)
   --seed N        what the drawing starts from (1). Shot i depends on the seed and i alone, so that
                   the same seed gives the same figure on any number of threads.
