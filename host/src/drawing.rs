@@ -190,12 +190,7 @@ impl Layout {
 
     /// Puts the symbols of an operation or an error into one column, this one or a later one, if their
     /// qudits are there and are different. Returns the next column, or the given one if they are not.
-    fn put(
-        &mut self,
-        symbols: &[(u8, Symbol)],
-        from: usize,
-        entry: &dyn fmt::Display,
-    ) -> usize {
+    fn put(&mut self, symbols: &[(u8, Symbol)], from: usize, entry: &dyn fmt::Display) -> usize {
         let lines = || symbols.iter().map(|&(qudit, _)| usize::from(qudit));
         let (first, last) = (lines().min().unwrap_or(0), lines().max().unwrap_or(0));
         let twice = symbols.len() == 2 && first == last;

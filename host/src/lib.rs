@@ -69,11 +69,44 @@
 //! [`Simulation::frame`], and [`frame_run`] on bytes, runs the same book without touching the rows by
 //! errors: it carries them as one frame, and shifts the results and, at the end, the rows' phases by
 //! it. It ends with the bytes of a direct run whose choices are raised by the frame's X power on the
-//! measured qudit.
+//! measured or reset qudit.
 //!
 //! Its [`Verdict`] says whether the errors changed the final state: it is clean exactly if the run
 //! without errors ends with the same stabilizer set. It says nothing of the results, which an error
 //! may have changed on the way. Destabilizer shifts are written but not judged.
+//!
+//! # Resets and corrections
+//!
+//! Two operations let a circuit use qudits again and act on what it has found. A *reset* brings a
+//! qudit to level 0: it measures it, which takes a choice and gives no result, and applies X to the
+//! minus outcome. A *correction* applies X to the minus result of an earlier measurement, which it
+//! names by its number. Measurements are counted from 0; resets are not.
+//!
+//! ```
+//! use cagvost::{Book, Simulation, Verdict};
+//!
+//! // Qudit 1 finds an X error on qudit 0, which is undone. Then it is brought back to level 0.
+//! let book: Book = "
+//!     qudits 2 dimension 3
+//!     error 0 x^2
+//!     sum 0 1
+//!     measure 1
+//!     correct 0 by 0
+//!     reset 1
+//! "
+//! .parse()?;
+//! let end = Simulation::new(&book)?.frame();
+//! assert_eq!(end.outcomes[0].to_string(), "certain 2");
+//! assert_eq!(end.verdict, Verdict::Clean);
+//! assert_eq!(
+//!     book.drawing().to_string(),
+//!     "q0 ─!X^2─●────X^-M0─\n\
+//!      q1 ──────⊕─M0─R─────\n"
+//! );
+//! # Ok::<(), Box<dyn std::error::Error>>(())
+//! ```
+//!
+//! `examples/memory.circuit` in the repository keeps a qutrit in this way.
 //!
 //! # Powers of a gate
 //!
@@ -106,8 +139,8 @@
 //! errors on the way. [`mirror()`] makes the *mirror* of a book: its operations in reversed order,
 //! each turned into its inverse, without errors and choices. Fourier applied k times becomes Fourier
 //! applied 4 − k times, phase gate, SUM and CZ applied k times become the same applied d − k times,
-//! a swap stays, and a multiplier gets the inverse factor. A measurement has no inverse: a book that
-//! has one is refused, by [`Refusal::Measurement`].
+//! a swap stays, and a multiplier gets the inverse factor. A measurement, a reset and a correction have
+//! no inverse: a book that has one of these is refused, by [`Refusal::Measurement`].
 //!
 //! A run of a book without errors and then one of its mirror leave every byte of a valid tableau as
 //! it was. If errors strike in the first run, the phase of each row is shifted in the end by the
@@ -161,9 +194,9 @@
 //! as it was. No check is owed before a call, and after a run that does not refuse the tableau passes
 //! the test.
 //!
-//! A *shot book* holds a circuit, the errors that strike it and one choice for each measurement. A
-//! run starts from a tableau that you lend, usually the zero tableau (all qudits at level 0) laid by
-//! [`layer`], and leaves the final one in its place.
+//! A *shot book* holds a circuit, the errors that strike it and one choice for each measurement and
+//! each reset. A run starts from a tableau that you lend, usually the zero tableau (all qudits at
+//! level 0) laid by [`layer`], and leaves the final one in its place.
 //!
 //! ```
 //! // Two qutrits: Fourier on 0, SUM from 0 to 1, an X error on 1, then both are measured.
@@ -215,7 +248,7 @@
 //!   are. So a stored tableau says what it is: [`test_tableau`] has to be told nothing, and a run
 //!   refuses one whose d or n is not the book's, even where its rows would be good for the book.
 //! - The *results* have 2 bytes for each measurement: the outcome, then 0 if it was certain or 1 if
-//!   it was free; [`results_len`] is their size.
+//!   it was free; [`results_len`] is their size. Resets have none.
 //! - The *shifts* of a frame run have a byte for each row, and its *frame* n X powers and n Z
 //!   powers; [`shifts_len`] and [`frame_len`] are their sizes.
 //! - The *shots* that a tray run fills have, for each shot, a byte for the verdict, 0 for clean or 1

@@ -62,8 +62,8 @@ pub const fn mirror_len(operations: usize) -> usize {
 /// cagvost::direct_run(&measured, &mut tableau, &mut results)?;
 /// assert_eq!(results, [0, 0, 3, 0]); // both certain
 ///
-/// // A measurement cannot be undone. The buffer keeps the mirror.
-/// circuit.measure(0, 4);
+/// // A reset cannot be undone, nor can a measurement or a correction. The buffer keeps the mirror.
+/// circuit.reset(0, 4).measure(0, 0).correct(1, 0);
 /// let refused = cagvost::mirror(&circuit.to_bytes(), &mut mirror);
 /// assert_eq!(refused, Err(Refusal::Measurement { index: 3 }));
 /// # Ok::<(), Refusal>(())
@@ -72,8 +72,8 @@ pub const fn mirror_len(operations: usize) -> usize {
 /// # Errors
 ///
 /// What is wrong with the book comes first ([`Refusal::BookHeader`] to [`Refusal::Choice`], as a run
-/// has them), then [`Refusal::Measurement`] with the first operation that is one, and last
-/// [`Refusal::ShortBuffer`], tested in this order.
+/// has them), then [`Refusal::Measurement`] with the first operation that is a measurement, a reset or a
+/// correction, and last [`Refusal::ShortBuffer`], tested in this order.
 pub fn mirror(book: &[u8], out: &mut [u8]) -> Result<usize, Refusal> {
     counted(library::mirror(book, out))
 }

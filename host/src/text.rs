@@ -283,7 +283,8 @@ impl fmt::Display for Book {
                 false => writeln!(f, "{error} at place {}", error.place)?,
             }
         }
-        choices.try_for_each(|choice| writeln!(f, "choice {choice} without a measurement or a reset"))
+        choices
+            .try_for_each(|choice| writeln!(f, "choice {choice} without a measurement or a reset"))
     }
 }
 

@@ -17,7 +17,8 @@ pub const fn book_len(operations: &[u8], errors: &[u8], choices: &[u8]) -> usize
 ///
 /// The bodies are bytes as a book has them: four for each operation, of which
 /// [`Operation::to_bytes`](crate::book::Operation::to_bytes) has the table, five for each error, one
-/// for each choice. [`Book::bodies`](crate::book::Book::bodies) makes them of Rust values.
+/// for each choice, of which each measurement and each reset has one.
+/// [`Book::bodies`](crate::book::Book::bodies) makes them of Rust values.
 ///
 /// ```
 /// use cagvost::Refusal;

@@ -144,8 +144,7 @@ impl fmt::Display for ScaleError {
 
 impl Error for ScaleError {}
 
-const KINDS: &str =
-    "fourier, phase, sum, cz, swap, multiplier, measure, reset, correct or others";
+const KINDS: &str = "fourier, phase, sum, cz, swap, multiplier, measure, reset, correct or others";
 
 /// Where the rates of all other kinds stand while a model is read.
 const OTHERS: usize = Kind::ALL.len();
