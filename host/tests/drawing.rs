@@ -29,9 +29,9 @@ fn every_symbol_on_one_qudit() {
         drawn(
             "qudits 1 dimension 31, fourier 0, fourier 0 ^3, phase 0, phase 0 ^30, \
              multiplier 0 by 12, measure 0 choose 5, error 0 x, error 0 z^2, error 0 x^30 z, \
-             error 0 i, measure 0"
+             error 0 i, measure 0, reset 0 choose 7, correct 0 by 1, correct 0 by 0, measure 0"
         ),
-        "q0 ─F─F^3─S─S^30─*12─M0─!X─!Z^2─!X^30Z─!I─M1─\n"
+        "q0 ─F─F^3─S─S^30─*12─M0─!X─!Z^2─!X^30Z─!I─M1─R─X^-M1─X^-M0─M2─\n"
     );
 }
 
@@ -76,6 +76,26 @@ fn the_leftmost_free_column() {
     let all = (0..64).map(|q| format!(", fourier {q}"));
     let text = drawn(&format!("qudits 64 dimension 3{}", all.collect::<String>()));
     assert!(text.lines().all(|line| line.ends_with(" ─F─")), "{text}");
+}
+
+/// A correction stands behind the measurement that it names, also where its own line is free before.
+/// Measurements are numbered without resets.
+#[test]
+fn corrections_stand_behind_their_measurements() {
+    assert_eq!(
+        drawn(
+            "qudits 3 dimension 3, reset 0, fourier 0, measure 0, reset 1, measure 1, \
+             correct 2 by 0, phase 2, correct 0 by 1"
+        ),
+        "q0 ─R─F──M0─X^-M1───\n\
+         q1 ─R─M1────────────\n\
+         q2 ─────────X^-M0─S─\n"
+    );
+    assert_eq!(
+        drawn("qudits 2 dimension 3, fourier 1, fourier 1, measure 1, correct 0 by 0, measure 0"),
+        "q0 ────────X^-M0─M1─\n\
+         q1 ─F─F─M0──────────\n"
+    );
 }
 
 /// A layer of gates on neighbours takes two columns, so that one sees the pairs. Other symbols may
@@ -298,6 +318,8 @@ fn operation_entry(operation: Operation, measured: usize) -> Entry {
         Operation::Swap { c, t } => pair(c, "×", t, "×".to_string()),
         Operation::Multiplier { q, u } => alone(q.into(), format!("*{u}")),
         Operation::Measure { q } => alone(q.into(), format!("M{measured}")),
+        Operation::Reset { q } => alone(q.into(), "R".to_string()),
+        Operation::Correct { t, m } => alone(t.into(), format!("X^-M{m}")),
     }
 }
 
@@ -398,7 +420,7 @@ fn a_gate_over_all_lines_again_and_again() {
 #[test]
 fn the_legend_has_every_symbol() {
     for symbol in [
-        "F ", "S ", "● ⊕", "● ●", "× ×", "│", "*2", "M0", "!X^2Z", "F^3",
+        "F ", "S ", "● ⊕", "● ●", "× ×", "│", "*2", "M0", "R ", "X^-M0", "!X^2Z", "F^3",
     ] {
         assert!(
             LEGEND.lines().any(|line| line.starts_with(symbol)),
@@ -440,6 +462,30 @@ fn what_cannot_be_drawn_is_listed() {
     );
 }
 
+/// A correction that names no earlier measurement, or one that is not drawn.
+#[test]
+fn corrections_by_no_measurement_are_drawn() {
+    let mut book = Book::new(3, 2);
+    book.operation(Operation::Fourier { q: 0, times: 1 })
+        .correct(1, 0)
+        .measure(7, 0)
+        .correct(1, 0)
+        .reset(9, 0)
+        .correct(8, 0)
+        .measure(0, 0)
+        .correct(1, 65535)
+        .correct(1, 1);
+    let refusal = book.write().expect_err("a refused book");
+    assert_eq!(
+        book.drawing().to_string(),
+        format!(
+            "q0 ─F─────M1────────────────────\n\
+             q1 ─X^-M0─X^-M0─X^-M65535─X^-M1─\n\n\
+             not drawn: measure 7\nnot drawn: reset 9\nnot drawn: correct 8 by 0\n{refusal}\n"
+        )
+    );
+}
+
 /// An error with a place after the end stands at the end; one that is out of order, where it strikes.
 #[test]
 fn errors_with_bad_places_are_drawn() {
@@ -469,7 +515,7 @@ fn draw_any(rng: &mut Rng) -> Book {
     let mut book = Book::new(rng.byte(), n);
     for _ in 0..rng.below(30) {
         let entry = [
-            rng.byte_below(7),
+            rng.byte_below(9),
             rng.byte_below(6),
             rng.byte_below(6),
             rng.byte(),

@@ -52,6 +52,7 @@ fn each_line_has_its_bytes() {
         ("multiplier 1 by 1", [5, 1, 0, 1]),
         ("multiplier 2 by 4", [5, 2, 0, 4]),
         ("measure 2", [6, 2, 0, 0]),
+        ("reset 1", [7, 1, 0, 0]),
     ] {
         let book = parse_lines(line).unwrap();
         assert_eq!(book.bodies()[0], entry, "{line}");
@@ -62,6 +63,45 @@ fn each_line_has_its_bytes() {
             (line.to_string(), entry)
         );
     }
+}
+
+/// A correction after so many measurements, the last of which it names: the low byte comes first.
+#[test]
+fn a_correction_has_its_bytes() {
+    for (m, [low, high]) in [
+        (0, [0, 0]),
+        (1, [1, 0]),
+        (255, [255, 0]),
+        (256, [0, 1]),
+        (258, [2, 1]),
+        (4094, [254, 15]),
+    ] {
+        let measured = "measure 0\n".repeat(usize::from(m) + 1);
+        let book = parse_lines(&format!("{measured}correct 2 by {m}\n")).unwrap();
+        let entry = [8, 2, low, high];
+        assert!(book.bodies()[0].ends_with(&entry), "{m}");
+        let operation = Operation::Correct { t: 2, m };
+        assert_eq!(book.operations().last(), Some(&operation));
+        assert_eq!(Operation::from_bytes(entry), Some(operation));
+        assert_eq!(operation.to_string(), format!("correct 2 by {m}"));
+        comes_back(&book);
+    }
+}
+
+/// A reset takes the next choice, as a measurement does, and a correction takes none.
+#[test]
+fn resets_have_choices() {
+    let text = "qudits 3 dimension 5\nreset 0 choose 3\nmeasure 1\ncorrect 2 by 0\nreset 2\n\
+                measure 0 choose 4\nerror 1 x\nreset 1 choose 1\n";
+    let mut book = Book::new(5, 3);
+    book.reset(0, 3).measure(1, 0).correct(2, 0).reset(2, 0);
+    book.measure(0, 4).error(1, 1, 0).reset(1, 1);
+    are_each_others(text, &book);
+    assert_eq!(
+        (book.choices(), book.measurements()),
+        (&[3, 0, 0, 4, 1][..], 2)
+    );
+    comes_back(&book);
 }
 
 #[test]
@@ -105,6 +145,10 @@ fn what_may_be_written_in_other_ways() {
     ] {
         assert_eq!(parse(text), book, "{text}");
     }
+    assert_eq!(
+        parse_lines("MEASURE 0\nReset 1 Choose 0\n\tCORRECT 02 BY 000 # by the first"),
+        parse_lines("measure 0\nreset 1\ncorrect 2 by 0")
+    );
     let once = parse_lines("fourier 0 ^1\nerror 1 x^1 z^0\nerror 1 x^0").unwrap();
     are_each_others(
         "qudits 3 dimension 5\nfourier 0\nerror 1 x\nerror 1 i\n",
@@ -148,26 +192,27 @@ fn comes_back(book: &Book) {
     assert_eq!(Book::from_bytes(&bytes).as_ref(), Ok(book), "{text}");
 }
 
-/// Every entry that four bytes below 8 can be: those that are operations come back as they were.
+/// Every entry that four bytes below 10 can be: those that are operations come back as they were.
 #[test]
 fn an_entry_is_an_operation_or_none() {
     let mut operations = 0;
-    for number in 0..8u32.pow(4) {
-        let entry = [0, 3, 6, 9].map(|shift| (number >> shift & 7) as u8);
+    for number in 0..10u32.pow(4) {
+        let entry = [1000, 100, 10, 1].map(|unit| (number / unit % 10) as u8);
         match Operation::from_bytes(entry) {
             Some(operation) => {
                 operations += 1;
                 assert_eq!(operation.to_bytes(), entry);
-                let first = usize::from(operation.qudits().count() == 2);
+                let on_two = usize::from(matches!(entry[0], 2..=4));
                 let qudits = [vec![entry[1]], vec![entry[1], entry[2]]];
-                assert_eq!(Vec::from_iter(operation.qudits()), qudits[first]);
+                assert_eq!(Vec::from_iter(operation.qudits()), qudits[on_two]);
             }
             // A good entry of a book is never none.
             None => assert_eq!(plain::decode(7, 8, &entry), None, "{entry:?}"),
         }
     }
-    // Fourier, phase gate, multiplier: 8·8 each; SUM, CZ: 8³; swap 8²; measurement 8.
-    assert_eq!(operations, 3 * 64 + 2 * 512 + 64 + 8);
+    // Fourier, phase gate, multiplier: 10² each; SUM, CZ, correction: 10³; swap 10²; measurement and
+    // reset 10.
+    assert_eq!(operations, 3 * 100 + 3 * 1000 + 100 + 2 * 10);
 }
 
 /// Measurements are counted among the operations, whatever choices there are.
@@ -179,6 +224,16 @@ fn measurements_and_choices_are_counted_apart() {
     book.choice(2).choice(0);
     assert_eq!((book.measurements(), book.choices().len()), (1, 2));
     assert_eq!(book.write(), Err(Refusal::Choice { index: 1 }));
+    assert!(
+        book.to_string()
+            .ends_with("\nchoice 0 without a measurement or a reset\n")
+    );
+    book.operation(Operation::Reset { q: 0 });
+    assert_eq!((book.measurements(), book.choices().len()), (1, 2));
+    assert_eq!(book.write(), Ok(book.to_bytes()));
+    book.operation(Operation::Reset { q: 1 });
+    assert_eq!(book.write(), Err(Refusal::Choice { index: 2 }));
+    assert!(book.to_string().ends_with("\nreset 1 without a choice\n"));
 }
 
 #[test]
@@ -303,7 +358,8 @@ fn draw_any(rng: &mut Rng) -> Book {
 /// Each text with where it is wrong, what should stand there and what does.
 #[test]
 fn a_text_that_cannot_be_read_says_where() {
-    const OPERATION: &str = "fourier, phase, sum, cz, swap, multiplier, measure or error";
+    const OPERATION: &str =
+        "fourier, phase, sum, cz, swap, multiplier, measure, reset, correct or error";
     const HEADER: &str = "'qudits N dimension D'";
     let end = "the end of the line";
     let header = "qudits 3 dimension 5";
@@ -387,6 +443,37 @@ fn a_text_that_cannot_be_read_says_where() {
         ("{}\nmeasure 0 chose 1", 2, 11, end, "'chose'"),
         ("{}\nmeasure 0 choose", 2, 17, "the choice", end),
         ("{}\nmeasure 0 ^2", 2, 11, end, "'^'"),
+        ("{}\nreset", 2, 6, "the qudit's number", end),
+        ("{}\nreset all", 2, 7, "the qudit's number", "'all'"),
+        ("{}\nreset 0 choose", 2, 15, "the choice", end),
+        ("{}\nreset 0 ^2", 2, 9, end, "'^'"),
+        ("{}\nreset 0 1", 2, 9, end, "'1'"),
+        ("{}\ncorrect", 2, 8, "the qudit's number", end),
+        ("{}\ncorrect 0", 2, 10, "'by'", end),
+        ("{}\ncorrect 0 1", 2, 11, "'by'", "'1'"),
+        ("{}\ncorrect 0 by", 2, 13, "the measurement's number", end),
+        (
+            "{}\ncorrect 0 by M0",
+            2,
+            14,
+            "the measurement's number",
+            "'M0'",
+        ),
+        (
+            "{}\ncorrect 0 by -1",
+            2,
+            14,
+            "the measurement's number",
+            "'-1'",
+        ),
+        (
+            "{}\nmeasure 0\ncorrect 0 by 0 choose 1",
+            3,
+            16,
+            end,
+            "'choose'",
+        ),
+        ("{}\nmeasure 0\ncorrect 0 by 0 ^2", 3, 16, end, "'^'"),
         ("{}\nerror", 2, 6, "the qudit's number", end),
         ("{}\nerror 1", 2, 8, "x, z or i", end),
         ("{}\nerror 1 y", 2, 9, "x, z or i", "'y'"),
@@ -505,11 +592,36 @@ fn a_refusal_names_its_line() {
             "measure 3",
             Refusal::Operation { index: 0 },
         ),
+        ("{}\nreset 3", 2, "reset 3", Refusal::Operation { index: 0 }),
+        (
+            "{}\nmeasure 0\ncorrect 3 by 0",
+            3,
+            "correct 3 by 0",
+            Refusal::Operation { index: 1 },
+        ),
         (
             "{}\nerror 0 x\nfourier 0\nerror 3 x",
             4,
             "error 3 x",
             Refusal::ErrorEntry { index: 1 },
+        ),
+        (
+            "{}\nmeasure 0\nreset 1 choose 5\nreset 2 choose 4",
+            3,
+            "reset 1 choose 5",
+            Refusal::Choice { index: 1 },
+        ),
+        (
+            "{}\nreset 1\ncorrect 1 by 0\nmeasure 0 choose 5",
+            3,
+            "correct 1 by 0",
+            Refusal::Operation { index: 1 },
+        ),
+        (
+            "{}\nreset 1\nmeasure 1\ncorrect 1 by 0\nmeasure 0 choose 5",
+            5,
+            "measure 0 choose 5",
+            Refusal::Choice { index: 2 },
         ),
         (
             "{}\nerror 0 x^5",
@@ -557,14 +669,111 @@ fn a_refusal_names_its_line() {
         ),
     ] {
         let text = text.replace("{}", "qudits 3 dimension 5");
-        let blamed = blamed.to_string();
-        let error = TextError::Refused {
-            line,
-            text: blamed,
-            refusal,
+        let TextError::Refused {
+            line: found,
+            text: shown,
+            refusal: number,
+            meaning,
+        } = parse(&text).unwrap_err()
+        else {
+            panic!("{text}");
         };
-        assert_eq!(parse(&text), Err(error), "{text}");
+        assert_eq!(
+            (found, &shown[..], number),
+            (line, blamed, refusal),
+            "{text}"
+        );
+        let names = meaning.starts_with("it names measurement ");
+        assert!(names || meaning == refusal.meaning(), "{text}: {meaning}");
     }
+}
+
+/// A correction that names no earlier measurement: itself has no number, and neither has a reset.
+#[test]
+fn a_correction_must_name_an_earlier_measurement() {
+    for (text, line, place, named, come) in [
+        ("{}\ncorrect 0 by 0", 2, 0, "0", "no measurement comes"),
+        (
+            "{}\nreset 0\ncorrect 0 by 0",
+            3,
+            1,
+            "0",
+            "no measurement comes",
+        ),
+        (
+            "{}\ncorrect 0 by 0\nmeasure 0",
+            2,
+            0,
+            "0",
+            "no measurement comes",
+        ),
+        (
+            "{}\nmeasure 0\nreset 1\ncorrect 2 by 1\nmeasure 0",
+            4,
+            2,
+            "1",
+            "1 measurement comes",
+        ),
+        (
+            "{}\nmeasure 0\n# later\nfourier 0\nmeasure 2\ncorrect 2 by 1\ncorrect 2 by 2",
+            7,
+            4,
+            "2",
+            "2 measurements come",
+        ),
+        (
+            "{}\nmeasure 0\ncorrect 9 by 1",
+            3,
+            1,
+            "1",
+            "1 measurement comes",
+        ),
+        (
+            "{}\ncorrect 0 by 4095",
+            2,
+            0,
+            "4095",
+            "no measurement comes",
+        ),
+        (
+            "{}\ncorrect 0 by 65534",
+            2,
+            0,
+            "65534",
+            "no measurement comes",
+        ),
+        (
+            "{}\ncorrect 0 by 65536",
+            2,
+            0,
+            "65535 or later",
+            "no measurement comes",
+        ),
+        (
+            "{}\nmeasure 0\ncorrect 0 by 18446744073709551616",
+            3,
+            1,
+            "65535 or later",
+            "1 measurement comes",
+        ),
+    ] {
+        let text = text.replace("{}", "qudits 3 dimension 5");
+        let blamed = text.lines().nth(line - 1).unwrap();
+        assert_eq!(
+            parse(&text).unwrap_err().to_string(),
+            format!(
+                "line {line}, '{blamed}': refused 5 at {place}: it names measurement {named}, and \
+                 {come} before it (they are counted from 0, without resets)"
+            )
+        );
+    }
+    // Where the name is good and the qudit is not, the words are those of 5.
+    let error = parse_lines("measure 0\ncorrect 3 by 0").unwrap_err();
+    let words = Refusal::Operation { index: 1 }.to_string();
+    assert_eq!(
+        error.to_string(),
+        format!("line 3, 'correct 3 by 0': {words}")
+    );
 }
 
 /// Numbers that fit no byte are refused like others that are too large.
@@ -593,6 +802,9 @@ fn large_numbers_are_not_cut_to_a_byte() {
             "sum 0 1 ^@",
             "multiplier 0 by @",
             "measure @",
+            "reset @",
+            "measure 0\ncorrect @ by 0",
+            "measure 0\ncorrect 0 by @",
         ] {
             let line = line.replace('@', large);
             assert_eq!(
@@ -609,10 +821,14 @@ fn large_numbers_are_not_cut_to_a_byte() {
                 "{line}"
             );
         }
-        assert_eq!(
-            number(&format!("qudits 2 dimension 3\nmeasure 0 choose {large}")),
-            7
-        );
+        for line in ["measure 0 choose @", "reset 0 choose @"] {
+            let line = line.replace('@', large);
+            assert_eq!(
+                number(&format!("qudits 2 dimension 3\n{line}")),
+                7,
+                "{line}"
+            );
+        }
     }
 }
 
@@ -634,6 +850,8 @@ fn a_text_may_be_too_long() {
     assert_eq!(refused(&lines("measure 0", MAX_OPERATIONS - 1)), None);
     let beyond = (MAX_OPERATIONS + 2, Refusal::Contents { entry: 0 });
     assert_eq!(refused(&lines("measure 0", MAX_OPERATIONS)), Some(beyond));
+    assert_eq!(refused(&lines("reset 0", MAX_OPERATIONS - 1)), None);
+    assert_eq!(refused(&lines("reset 0", MAX_OPERATIONS)), Some(beyond));
     assert_eq!(refused(&lines("fourier 1", 70_000)), Some(beyond));
     assert_eq!(refused(&lines("error 0 x", MAX_ERRORS)), None);
     let beyond = (MAX_ERRORS + 3, Refusal::Contents { entry: 1 });

@@ -48,6 +48,47 @@ fn two_errors_that_may_undo_each_other() {
     }
 }
 
+/// A power of X before a reset is gone behind it, and one at the reset stays: the reset has left
+/// another level than 0.
+#[test]
+fn errors_before_and_at_a_reset() {
+    for d in [3, 7, 31] {
+        let book = circuit(&format!(
+            "qudits 1 dimension {d}\nmultiplier 0 by 2\nreset 0"
+        ));
+        let unharmed = |model: &str| count(&share(&book, model), 5, SHOTS).unharmed;
+        assert_eq!(unharmed("multiplier 1\nreset z 1"), SHOTS);
+        is_likely(unharmed("multiplier 1\nreset x 0.3"), SHOTS, 0.7);
+        let harms = f64::from(d) / f64::from(d + 1);
+        is_likely(
+            unharmed("multiplier 0\nreset 0.3"),
+            SHOTS,
+            1.0 - 0.3 * harms,
+        );
+    }
+}
+
+/// A power of X is found by a measurement and undone by the correction, which takes the result that
+/// the shot has. One that strikes at the correction stays.
+#[test]
+fn an_error_that_a_correction_undoes() {
+    for d in [3, 7, 31] {
+        let book = circuit(&format!(
+            "qudits 2 dimension {d}\nmultiplier 0 by 1\nsum 0 1\nmeasure 1\ncorrect 0 by 0\nreset 1"
+        ));
+        let counts = count(&share(&book, "multiplier x 0.4\nothers 0"), 6, SHOTS);
+        assert_eq!(counts.unharmed, SHOTS);
+        is_likely(counts.results_unharmed, SHOTS, 0.6);
+        let counts = count(&share(&book, "correct x 0.4\nothers 0"), 6, SHOTS);
+        is_likely(counts.unharmed, SHOTS, 0.6);
+        assert_eq!(counts.results_unharmed, SHOTS);
+        // A wrong result makes a wrong correction.
+        let counts = count(&share(&book, "measure x 0.4\nothers 0"), 6, SHOTS);
+        is_likely(counts.unharmed, SHOTS, 0.6);
+        assert_eq!(counts.results_unharmed, counts.unharmed);
+    }
+}
+
 /// An error between two measurements changes the second result alone, and the state.
 #[test]
 fn an_error_between_two_measurements() {
@@ -75,7 +116,7 @@ fn a_power_of_a_gate_is_one_operation() {
     }
 }
 
-/// Gates under which qudits at level 0 stay there, and measurements of them.
+/// Gates under which qudits at level 0 stay there, measurements and resets of them, and corrections.
 fn at_level_0(rng: &mut Rng, d: u8, n: u8) -> Book {
     let mut book = Book::new(d, n);
     let drawn = draw_circuit(rng, d, n, 60, 6);
@@ -83,6 +124,7 @@ fn at_level_0(rng: &mut Rng, d: u8, n: u8) -> Book {
         match operation {
             Operation::Fourier { .. } | Operation::PhaseGate { .. } => {}
             Operation::Measure { q } => _ = book.measure(q, rng.byte_below(d)),
+            Operation::Reset { q } => _ = book.reset(q, rng.byte_below(d)),
             other => _ = book.operation(other),
         }
     }

@@ -35,7 +35,7 @@ fn is_even(counts: &[f64], means: &[f64]) {
 
 // ---- Where
 
-/// After a gate, before a measurement, on its qudits, and in the order of the places.
+/// Before a measurement, after all else, on its qudits, and in the order of the places.
 #[test]
 fn errors_strike_the_qudits_of_an_operation_at_its_place() {
     let mut rng = Rng(3);
@@ -355,9 +355,9 @@ fn another_seed_gives_other_errors() {
 fn each_kind_has_its_own_rates() {
     let book = circuit(
         "qudits 2 dimension 5\nfourier 0\nphase 0\nsum 0 1\ncz 0 1\nswap 0 1\nmultiplier 0 by 2\n\
-         measure 0",
+         measure 0\nreset 0\ncorrect 1 by 0",
     );
-    let kinds: [(&str, &[u16]); 7] = [
+    let kinds: [(&str, &[u16]); 9] = [
         ("fourier", &[1]),
         ("phase", &[2]),
         ("sum", &[3, 3]),
@@ -365,7 +365,10 @@ fn each_kind_has_its_own_rates() {
         ("swap", &[5, 5]),
         ("multiplier", &[6]),
         ("measure", &[6]),
+        ("reset", &[8]),
+        ("correct", &[9]),
     ];
+    assert!(kinds.map(|(name, _)| name) == Kind::ALL.map(Kind::name));
     for (kind, places) in kinds {
         let sampler = sampler(&book, &format!("{kind} 1\nothers 0"));
         let struck: Vec<u16> = sampler.errors(1, 0).iter().map(|e| e.place).collect();
@@ -385,6 +388,16 @@ fn a_kind_without_rates_is_refused() {
         Some(ShareError::NoRate(Kind::Swap))
     );
     assert_eq!(refused("sum 0"), Some(ShareError::NoRate(Kind::Fourier)));
+    // A model from before there were resets and corrections says nothing of them.
+    let book = circuit("qudits 2 dimension 3\nmeasure 0\nreset 0\ncorrect 1 by 0");
+    let refused = |text: &str| Share::new(&book, &model(text)).err();
+    assert_eq!(refused("measure 0"), Some(ShareError::NoRate(Kind::Reset)));
+    assert_eq!(
+        refused("measure 0\nreset 0"),
+        Some(ShareError::NoRate(Kind::Correct))
+    );
+    assert_eq!(refused("measure 0\nreset 0\ncorrect 0"), None);
+    assert_eq!(refused("measure 0\nothers 0"), None);
     let error = ShareError::NoRate(Kind::Swap).to_string();
     assert!(
         error.contains("'swap'") && error.contains("'others'"),

@@ -117,6 +117,27 @@ fn models_are_compared_by_what_they_mean() {
     assert_eq!(model("others 0"), model("fourier 0\nothers 0"));
 }
 
+/// Parts that were counted before there were resets and corrections still add up, also where the model
+/// has a rate for every kind. The number was computed by another program, of the seven lines that such
+/// a model had.
+#[test]
+fn rates_of_resets_and_corrections_count_if_there_are_some() {
+    let model_of = |text: &str, model: &str| share(&circuit(text), model).job(1, 10).model;
+    let gates = "qudits 2 dimension 3\nfourier 0\nmeasure 0";
+    assert_eq!(model_of(gates, "others 0.01"), 0x38e5_c6ee_6ef1_c0e9);
+    let (reset, correct) = ("others 0.01\nreset 0.5", "others 0.01\ncorrect 0.5");
+    for (more, counts) in [
+        ("", [false, false]),
+        ("\nreset 0", [true, false]),
+        ("\ncorrect 1 by 0", [false, true]),
+        ("\nreset 0\ncorrect 1 by 0", [true, true]),
+    ] {
+        let text = format!("{gates}{more}");
+        let differs = |model| model_of(&text, model) != model_of(&text, "others 0.01");
+        assert_eq!([reset, correct].map(differs), counts, "{more}");
+    }
+}
+
 #[test]
 fn shards_that_are_twice_there_or_missing_are_named() {
     let all = parts(&share(&drawn(), "others 0.01"), 4, 100, 9);
