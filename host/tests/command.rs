@@ -502,23 +502,55 @@ fn too_many_errors_are_refused() {
 
 // ---- What is shown elsewhere
 
-/// README shows a share and a drawing as they are printed, each behind its command.
+/// Both READMEs show shares and a drawing as they are printed, each behind its command.
 #[test]
 fn the_readme_shows_what_is_printed() {
-    let readme = fs::read_to_string(top().join("README.md")).expect("README.md");
-    for (line, gap) in [
+    for (name, line, gap) in [
         (
+            "README.md",
             "./cagvost share examples/ghz.circuit --model examples/chip.model",
             "\n\n",
         ),
-        ("$ ./cagvost draw examples/ghz.circuit", "\n"),
+        ("README.md", "$ ./cagvost draw examples/ghz.circuit", "\n"),
+        (
+            "examples/README.md",
+            "./cagvost share examples/memory.circuit --model examples/memory.model",
+            "\n\n",
+        ),
     ] {
+        let readme = fs::read_to_string(top().join(name)).expect(name);
         let (_, words) = line.split_once("./cagvost ").expect("a command");
         let printed = call(words).done();
         let shown = printed.lines().map(|line| format!("    {line}\n"));
         let shown = format!("    {line}{gap}{}\n", shown.collect::<String>());
-        assert!(readme.contains(&shown), "README.md does not show\n{shown}");
+        assert!(readme.contains(&shown), "{name} does not show\n{shown}");
     }
+}
+
+/// The share of the memory experiment without its corrections, as examples/README.md has it.
+#[test]
+fn corrections_keep_what_waits() {
+    let circuit = fs::read_to_string(top().join("examples/memory.circuit")).expect("a circuit");
+    let share = |text: &str| {
+        let words = ["share", "-", "--model", "examples/memory.model"];
+        let figure = call_with(text.as_bytes(), &words).done();
+        let unharmed = figure.lines().nth(1).expect("a share");
+        let share = unharmed.split_whitespace().nth(3).expect("a number");
+        share.parse::<f64>().expect("a number")
+    };
+    let lines = circuit.lines().filter(|line| !line.starts_with("correct"));
+    let without = share(&lines.map(|line| format!("{line}\n")).collect::<String>());
+    let kept = share(&circuit);
+    let readme = fs::read_to_string(top().join("examples/README.md")).expect("README.md");
+    for share in [without, kept] {
+        assert!(
+            readme.contains(&format!(" {:.1} %", 100.0 * share)),
+            "{share}"
+        );
+    }
+    // That of a qutrit which waits twice without a code is between the two.
+    let bare = 0.95 * 0.95;
+    assert!(without < bare && bare + 0.05 < kept, "{without} {kept}");
 }
 
 /// The stored curve is what the command of examples/README.md draws.

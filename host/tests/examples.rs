@@ -4,7 +4,10 @@
 
 use crate::common;
 
-use cagvost::book::{Book, MAX_CHOICES, MAX_ERRORS, MAX_OPERATIONS, MAX_QUDITS, Operation};
+use cagvost::book::{
+    Book, MAX_CHOICES, MAX_ERRORS, MAX_OPERATIONS, MAX_QUDITS, Operation, WeylError,
+};
+use cagvost::{FrameEnd, Simulation, Verdict};
 use common::frames::Buffers;
 use common::{Rng, UNWRITTEN, plain, zero_tableau};
 use std::collections::BTreeSet;
@@ -227,6 +230,125 @@ fn what_the_stored_circuit_and_its_mirror_leave() {
     assert_eq!(carried.frame, [0, 0, 1, 0]);
     assert_eq!(carried.by_library(&mirror), (0, 0, 0));
     assert_eq!(carried.tableau, tableau);
+}
+
+// ---- The memory experiment
+
+fn memory() -> Book {
+    let text = fs::read_to_string(stored("memory", "circuit")).expect("the stored circuit");
+    text.parse().unwrap_or_else(|e| panic!("{e}"))
+}
+
+/// Where a qutrit waits: the place behind that operation, and the qutrit.
+fn waits(book: &Book) -> Vec<(u16, u8)> {
+    let wait = |(k, operation): (u16, &Operation)| match *operation {
+        Operation::Multiplier { q, u: 1 } => Some((k + 1, q)),
+        _ => None,
+    };
+    (0..).zip(book.operations()).filter_map(wait).collect()
+}
+
+/// The end of its frame run. Every outcome but the first is certain, and no error strikes before that
+/// one, so that a direct run with the same choices ends with the same rows and results.
+fn kept(book: &Book, error: WeylError) -> FrameEnd {
+    let mut book = book.clone();
+    let simulation = Simulation::new(book.error_at(error)).expect("a good book");
+    let (frame, direct) = (simulation.frame(), simulation.direct());
+    assert_eq!(
+        (&frame.outcomes, &frame.tableau),
+        (&direct.outcomes, &direct.tableau)
+    );
+    frame
+}
+
+/// Each error on the qutrit that waits is found and undone. The same error on another one is found
+/// too, and the correction is then one of the wrong qutrit. An error on the one that the kept state is
+/// entangled with is neither found nor undone.
+#[test]
+fn errors_on_the_waiting_qutrit_are_undone() {
+    let book = memory();
+    let waits = waits(&book);
+    assert_eq!(waits, [(13, 1), (30, 2)]);
+    for (round, &(place, waiting)) in waits.iter().enumerate() {
+        for (p, s) in (0..3).flat_map(|p| (0..3).map(move |s| (p, s))).skip(1) {
+            let mut found = [2, 0, 0, 0, 0];
+            let end = |qudit| kept(&book, WeylError { place, qudit, p, s });
+            let values = |end: &FrameEnd| Vec::from_iter(end.outcomes.iter().map(|o| o.value));
+            assert_eq!(
+                (end(4).verdict, values(&end(4))),
+                (Verdict::Shifted, found.to_vec())
+            );
+            found[2 * round + 1..][..2].copy_from_slice(&[p, s]);
+            for qudit in 0..3 {
+                let end = end(qudit);
+                let is_undone = end.verdict == Verdict::Clean;
+                assert_eq!(is_undone, qudit == waiting, "X^{p} Z^{s} on {qudit}");
+                assert_eq!(values(&end), found);
+            }
+        }
+    }
+}
+
+/// Without its corrections the circuit finds the same errors and keeps them.
+#[test]
+fn without_corrections_errors_stay() {
+    let mut book = Book::new(3, 5);
+    for &operation in memory().operations() {
+        match operation {
+            Operation::Measure { q } => book.measure(q, 0),
+            Operation::Reset { q } => book.reset(q, 0),
+            Operation::Correct { .. } => &mut book,
+            gate => book.operation(gate),
+        };
+    }
+    for (place, qudit) in waits(&book) {
+        let end = kept(
+            &book,
+            WeylError {
+                place,
+                qudit,
+                p: 1,
+                s: 0,
+            },
+        );
+        assert_eq!(end.verdict, Verdict::Shifted);
+    }
+}
+
+/// The stored book is the circuit with an error on each qutrit that waits, and one on the third before
+/// it is reset.
+#[test]
+fn the_stored_memory_is_the_circuit_with_errors() {
+    let bytes = fs::read(stored("memory", "book")).expect("a stored book");
+    let book = Book::from_bytes(&bytes).expect("a good book");
+    assert_eq!(book.without_errors(), memory());
+    let struck = book.errors().iter().map(|error| (error.place, error.qudit));
+    assert_eq!(Vec::from_iter(struck), [(13, 1), (19, 3), (30, 2)]);
+    assert_eq!(book.operations()[19], Operation::Reset { q: 3 });
+    let end = Simulation::new(&book).expect("a good book").frame();
+    assert_eq!(end.verdict, Verdict::Clean);
+}
+
+/// Worked by hand. The first reset is free: it finds 3 without errors, and so qudit 1 is left at level
+/// 3, which X makes 4. The second finds 2, which was measured before, and has no use for its choice.
+/// Then qudit 0 is moved back by 3 from level 0, qudit 1 to level 0, and qudit 2 by 2 from level 0; the
+/// X before the first of these is taken out by the shift of measurement 0. What is left is X² on qudit 2
+/// and, on qudit 0, Z and Z³.
+#[test]
+fn what_the_stored_resets_leave() {
+    let bytes = fs::read(stored("resets", "book")).expect("a stored book");
+    let book = Book::from_bytes(&bytes).expect("a good book");
+    let end = Simulation::new(&book).expect("a good book").frame();
+    let outcomes = end.outcomes.iter().map(|o| (o.qudit, o.to_string()));
+    let expected = [
+        (1, "certain 4"),
+        (2, "free 2"),
+        (0, "certain 2"),
+        (2, "certain 0"),
+    ];
+    assert!(outcomes.eq(expected.map(|(qudit, said)| (qudit, said.to_string()))));
+    assert_eq!(end.frame.to_string(), "Z0^4 X2^2");
+    assert_eq!(end.verdict, Verdict::Shifted);
 }
 
 #[test]
