@@ -207,6 +207,10 @@ mod tests {
         book.measure(0, 1).measure(0, 2).measure(0, 0);
         let answer = direct_run(&book.to_bytes(), &mut tableau, &mut [0; 6]);
         assert_eq!((answer.number, answer.place), (0, 3));
+        // Neither of these is a measurement, so that there is room for all results.
+        book.reset(0, 2).correct(0, 1);
+        let answer = direct_run(&book.to_bytes(), &mut tableau, &mut [0; 6]);
+        assert_eq!((answer.number, answer.place), (0, 3));
     }
 
     #[test]

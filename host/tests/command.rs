@@ -151,6 +151,14 @@ fn a_refused_text_is_listed_and_its_line_is_said() {
     assert_eq!((ended.status, ended.text()), (1, "refused 5 at 1\n"));
     let said = "cagvost: standard input: line 4, 'sum 1 1': refused 5 at 1: ";
     assert!(ended.said.starts_with(said), "{}", ended.said);
+    let ended = call_with(
+        b"qudits 2 dimension 3\nmeasure 0\nreset 0\ncorrect 1 by 1\n",
+        &["run", "-"],
+    );
+    assert_eq!((ended.status, ended.text()), (1, "refused 5 at 2\n"));
+    let said = "cagvost: standard input: line 4, 'correct 1 by 1': refused 5 at 2: it names \
+                measurement 1, and 1 measurement comes before it ";
+    assert!(ended.said.starts_with(said), "{}", ended.said);
     let ended = call_with(b"qudits 2 dimension 3\nfurier 0\n", &["run", "-"]);
     ended.failed(1, "standard input: line 2, column 1: expected fourier");
     call_with(b"qudits 2 dimension 3\n\nfourier \xff", &["run", "-"])
@@ -228,6 +236,22 @@ fn the_mirror_of_the_stored_circuit() {
     let without = circuit.lines().filter(|line| !line.starts_with("error"));
     assert!(again.lines().eq(without));
     assert_ne!(again, circuit);
+}
+
+#[test]
+fn what_cannot_be_undone_has_no_mirror() {
+    for (line, place) in [
+        ("measure 0", 1),
+        ("reset 0", 1),
+        ("measure 0\ncorrect 1 by 0", 1),
+        ("fourier 0\nreset 1 choose 2\nmeasure 0", 2),
+    ] {
+        let text = format!("qudits 2 dimension 3\nsum 0 1\n{line}\n");
+        let words = format!(
+            "refused 12 at {place}: this operation is the book's first measurement, reset or correction"
+        );
+        call_with(text.as_bytes(), &["mirror", "-"]).failed(1, &words);
+    }
 }
 
 #[test]
