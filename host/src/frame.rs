@@ -82,11 +82,13 @@ pub const fn frame_len(n: usize) -> usize {
 /// Runs a book from the lent tableau, carrying all its errors as one frame to the end.
 ///
 /// The choices are those of the run without errors. What is written into `results` are the reported
-/// results: the clean ones plus the frame's X power on the measured qudit, which is their shift. A
-/// reset makes the frame's X power on its qudit 0. A correction changes the rows by the clean result of
-/// the measurement that it names, and the frame's X power on its qudit by that shift. At the end each row's
-/// phase is shifted by the pairing of the frame with that row; `shifts` has these shifts in row
-/// order, and `frame` the final frame. What both buffers held before does not matter.
+/// results: the clean ones plus the frame's X power on the measured qudit, which is the shift of that
+/// result. A reset makes the frame's X power on its qudit 0. A correction changes the rows by the
+/// clean result that it names, and takes the shift of that result out of the frame's X power.
+///
+/// At the end each row's phase is shifted by the pairing of the frame with that row; `shifts` has
+/// these shifts in row order, and `frame` the final frame. What both buffers held before does not
+/// matter.
 ///
 /// The verdict is clean exactly if the last n shifts, those of the stabilizers, are 0: then the
 /// errors have not changed the final state, though they may have changed results.

@@ -139,8 +139,8 @@
 //! errors on the way. [`mirror()`] makes the *mirror* of a book: its operations in reversed order,
 //! each turned into its inverse, without errors and choices. Fourier applied k times becomes Fourier
 //! applied 4 − k times, phase gate, SUM and CZ applied k times become the same applied d − k times,
-//! a swap stays, and a multiplier gets the inverse factor. A measurement, a reset and a correction have
-//! no inverse: a book that has one of these is refused, by [`Refusal::Measurement`].
+//! a swap stays, and a multiplier gets the inverse factor. A measurement, a reset and a correction
+//! have no inverse: a book that has one of these is refused, by [`Refusal::Measurement`].
 //!
 //! A run of a book without errors and then one of its mirror leave every byte of a valid tableau as
 //! it was. If errors strike in the first run, the phase of each row is shifted in the end by the

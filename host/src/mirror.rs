@@ -72,8 +72,8 @@ pub const fn mirror_len(operations: usize) -> usize {
 /// # Errors
 ///
 /// What is wrong with the book comes first ([`Refusal::BookHeader`] to [`Refusal::Choice`], as a run
-/// has them), then [`Refusal::Measurement`] with the first operation that is a measurement, a reset or a
-/// correction, and last [`Refusal::ShortBuffer`], tested in this order.
+/// has them), then [`Refusal::Measurement`] with the first operation that is a measurement, a reset or
+/// a correction, and last [`Refusal::ShortBuffer`], tested in this order.
 pub fn mirror(book: &[u8], out: &mut [u8]) -> Result<usize, Refusal> {
     counted(library::mirror(book, out))
 }
