@@ -99,8 +99,8 @@ impl State {
         }
     }
 
-    /// Does a gate as often as it is applied, singly; a measurement needs its outcome, and is done by
-    /// `collapse`.
+    /// Does a gate as often as it is applied, singly. A measurement needs its outcome, and is done by
+    /// `collapse`; so does a reset (`reset`), and a correction needs a result (`lower`).
     pub fn gate(&mut self, operation: Operation) {
         for _ in 0..super::times_of(operation) {
             self.gate_once(operation);
@@ -125,8 +125,23 @@ impl State {
             Operation::Multiplier { q, u } => {
                 self.permute(|s, i| s.with(i, q, s.level(i, q) * usize::from(u) % d))
             }
-            Operation::Measure { .. } => panic!("a measurement is no gate"),
+            Operation::Measure { .. } | Operation::Reset { .. } | Operation::Correct { .. } => {
+                panic!("{operation} is no gate")
+            }
         }
+    }
+
+    /// X^(−by) on qudit q: each level goes down by so many.
+    pub fn lower(&mut self, q: u8, by: u8) {
+        let d = self.d;
+        let down = |level: usize| (level + d - usize::from(by)) % d;
+        self.permute(|s, i| s.with(i, q, down(s.level(i, q))));
+    }
+
+    /// Measures qudit q with this outcome, and applies X to the minus outcome.
+    pub fn reset(&mut self, q: u8, outcome: u8) {
+        self.collapse(q, outcome.into());
+        self.lower(q, outcome);
     }
 
     /// X^p Z^s: Z^s acts first.

@@ -5,8 +5,8 @@ pub mod frames;
 pub mod plain;
 pub mod trays;
 
-use cagvost::Refusal;
 use cagvost::book::{Book, DIMENSIONS, MAX_ERRORS, MAX_OPERATIONS, Operation, WeylError};
+use cagvost::{Refusal, Tray};
 
 /// A byte that no call but the writer writes: results, marks, shifts, powers and phases are below
 /// 31, d and n at most 64. Buffers are filled with it before a call, so that a byte left unwritten
@@ -86,7 +86,7 @@ pub fn times_of(operation: Operation) -> u8 {
         | Operation::PhaseGate { times, .. }
         | Operation::Sum { times, .. }
         | Operation::Cz { times, .. } => times,
-        Operation::Swap { .. } | Operation::Multiplier { .. } | Operation::Measure { .. } => 1,
+        _ => 1,
     }
 }
 
@@ -95,7 +95,7 @@ pub fn most_times(d: u8, operation: Operation) -> u8 {
     match operation {
         Operation::Fourier { .. } => 3,
         Operation::PhaseGate { .. } | Operation::Sum { .. } | Operation::Cz { .. } => d - 1,
-        Operation::Swap { .. } | Operation::Multiplier { .. } | Operation::Measure { .. } => 1,
+        _ => 1,
     }
 }
 
@@ -106,7 +106,7 @@ pub fn with_times(mut operation: Operation, k: u8) -> Operation {
         | Operation::PhaseGate { times, .. }
         | Operation::Sum { times, .. }
         | Operation::Cz { times, .. } => *times = k,
-        Operation::Swap { .. } | Operation::Multiplier { .. } | Operation::Measure { .. } => {}
+        _ => {}
     }
     operation
 }
@@ -231,7 +231,8 @@ pub struct Shape {
     pub n: u8,
     pub operations: usize,
     pub errors: usize,
-    /// About one operation in so many is a measurement.
+    /// About one operation in so many is a measurement; where qudits are reused, some of these are
+    /// resets, and about as many more are corrections. With 1, all are measurements.
     pub measure_one_in: usize,
 }
 
@@ -257,11 +258,18 @@ impl Shape {
     }
 }
 
-/// An acceptable book: gates, measurements and errors strewn over it.
+/// An acceptable book: gates, measurements and errors strewn over it, and in every second book, by
+/// chance, resets and corrections too.
+pub fn draw_book(rng: &mut Rng, shape: Shape) -> Book {
+    let reuses = rng.once_in(2);
+    draw_book_of(rng, shape, reuses)
+}
+
+/// The same, with resets and corrections or without.
 ///
 /// A measurement sometimes repeats the one before it, or all qudits are measured in a row, so that
-/// certain outcomes are common for many qudits too.
-pub fn draw_book(rng: &mut Rng, shape: Shape) -> Book {
+/// certain outcomes are common for many qudits too. The same holds of resets.
+pub fn draw_book_of(rng: &mut Rng, shape: Shape, reuses: bool) -> Book {
     let mut places: Vec<usize> = (0..shape.errors)
         .map(|_| rng.below(shape.operations + 1))
         .collect();
@@ -288,14 +296,46 @@ pub fn draw_book(rng: &mut Rng, shape: Shape) -> Book {
                 _ => sweep - 1,
             };
             sweep = sweep.saturating_sub(1);
-            let choice = rng.byte_below(shape.d);
-            book.measure(last, choice);
+            let resets = reuses && shape.measure_one_in > 1 && rng.once_in(3);
+            take_choice(&mut book, last, resets, rng.byte_below(shape.d));
         } else {
-            let gate = draw_gate(rng, shape.d, shape.n);
-            book.operation(gate);
+            let corrects = reuses && rng.once_in(shape.measure_one_in);
+            draw_other(rng, &mut book, corrects);
         }
     }
     book
+}
+
+/// Adds a measurement or a reset with its choice.
+fn take_choice(book: &mut Book, q: u8, resets: bool, choice: u8) {
+    if resets {
+        book.reset(q, choice);
+    } else {
+        book.measure(q, choice);
+    }
+}
+
+/// Adds a correction, if one is wanted and there is a result for it, and else a gate.
+fn draw_other(rng: &mut Rng, book: &mut Book, corrects: bool) {
+    let (d, n) = (book.dimension(), book.qudits());
+    let named = if corrects {
+        draw_named(rng, book)
+    } else {
+        None
+    };
+    match named {
+        Some(m) => book.correct(rng.byte_below(n), m),
+        None => book.operation(draw_gate(rng, d, n)),
+    };
+}
+
+/// The number of a measurement that is in the book, half of the time of the last.
+pub fn draw_named(rng: &mut Rng, book: &Book) -> Option<u16> {
+    let measured = book.measurements();
+    if measured == 0 || rng.once_in(2) {
+        return measured.checked_sub(1).map(|m| m as u16);
+    }
+    Some(rng.below(measured) as u16)
 }
 
 /// A book with an error on each qudit. No power is 0, so that what becomes of each is seen.
@@ -327,7 +367,8 @@ pub fn shuffled(rng: &mut Rng, mut operations: Vec<Operation>) -> Vec<Operation>
     operations
 }
 
-/// The same book with each choice raised by the frame's X power on the measured qudit.
+/// The same book with each choice raised by the frame's X power on the qudit that is measured or
+/// reset.
 pub fn with_raised_choices(book: &Book) -> Book {
     let read = plain::read(&book.to_bytes()).expect("an accepted book");
     let mut raised = book.clone();
@@ -366,13 +407,13 @@ pub fn named(d: u8, n: u8, rows: &[u8]) -> Vec<u8> {
 pub fn damage(rng: &mut Rng, book: &mut Vec<u8>) {
     let place = rng.below(book.len() + 1);
     match rng.below(16) {
-        0 => book.insert(place, rng.byte_below(8)),
+        0 => book.insert(place, rng.byte_below(10)),
         1 => book.truncate(place),
         2 => drop(book.drain(place..(place + 5).min(book.len()))),
         // The table of contents and the last choices, more often than their length earns.
         3 | 4 if book.len() > BODIES => book[rng.below(BODIES)] = rng.byte_below(90),
         5 | 6 if book.len() > BODIES => *book.last_mut().unwrap() = rng.byte_below(8),
-        _ if place < book.len() => book[place] = rng.byte_below(8),
+        _ if place < book.len() => book[place] = rng.byte_below(10),
         _ => book.push(rng.byte()),
     }
 }
@@ -529,6 +570,42 @@ pub fn mirror_both(book: &[u8], out: &[u8]) -> (plain::Returned, Vec<u8>) {
     assert!(lent == book, "the book was written: {book:02x?}");
     keeps_the_rest(answer, out, &by_library);
     (answer, by_library)
+}
+
+/// What both runs, the tray run and the writer say to a book with a good table of contents, which
+/// must be the same: nothing, or the refusal. Only the book can be wrong. The mirror says the same,
+/// but that it refuses a good book by 12 if a choice is taken there.
+pub fn refused(rng: &mut Rng, book: &[u8]) -> Option<plain::Returned> {
+    let bodies = plain::read_contents(book).expect("a good table of contents");
+    let bodies = bodies.map(<[u8]>::to_vec);
+    let (d, n, measurements) = (book[1], book[2], trays::measurements_in(&bodies[0]));
+    let tableau = draw_tableau(rng, d, n);
+    let before = frames::Buffers::drawn(rng, n, measurements, tableau);
+    let mut tray = Tray::new();
+    tray.body(&bodies[1]).body(&[]).body(&[1, 0, 0, 1, 1]);
+    let lent = trays::Lent {
+        book: book.to_vec(),
+        tray: tray.to_bytes(),
+        tableau: before.tableau.clone(),
+        out: rng.bytes(cagvost::shots_len(tray.shots(), measurements)),
+    };
+    let direct = run_both(book, &before.tableau, &before.results).returned;
+    let framed = frames::carry_both(book, &before).0;
+    let shots = trays::tray_both(&lent).0;
+    let written = write_both(&bodies, d.into(), n.into(), &vec![UNWRITTEN; book.len()]).0;
+    let mirrored = mirror_both(book, &vec![UNWRITTEN; book.len()]).0;
+    let returned = [(framed.0, framed.1), (shots.0, shots.1), written];
+    if direct.0 == 0 {
+        assert_eq!(direct.1, measurements, "{book:02x?}");
+        let accepted = returned.iter().all(|r| r.0 == 0);
+        assert!(accepted, "{book:02x?}: {returned:?}");
+        let expected = if bodies[2].is_empty() { 0 } else { 12 };
+        assert_eq!(mirrored.0, expected, "{book:02x?}");
+        return None;
+    }
+    assert_eq!(returned, [direct; 3], "{book:02x?}");
+    assert_eq!(mirrored, direct, "{book:02x?}");
+    Some(direct)
 }
 
 /// A call that writes a book keeps all bytes past it, and by a refusal all there are.

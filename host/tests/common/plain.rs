@@ -163,9 +163,13 @@ pub enum Op {
     Swap(usize, usize),
     Multiplier(usize, i64),
     Measure(usize),
+    Reset(usize),
+    /// The qudit that is corrected, and the number of a measurement.
+    Correct(usize, usize),
 }
 
-/// The operation that four bytes mean, if they mean one.
+/// The operation that four bytes mean, if they mean one. Whether the measurement that a correction
+/// names comes earlier is the reader's to say.
 pub fn decode(d: i64, n: usize, entry: &[u8]) -> Option<Op> {
     let at = |i: usize| usize::from(entry[i]);
     let last = i64::from(entry[3]);
@@ -179,6 +183,8 @@ pub fn decode(d: i64, n: usize, entry: &[u8]) -> Option<Op> {
         4 if two && last == 0 => Some(Op::Swap(at(1), at(2))),
         5 if one && last >= 1 && last < d => Some(Op::Multiplier(at(1), last)),
         6 if one && last == 0 => Some(Op::Measure(at(1))),
+        7 if one && last == 0 => Some(Op::Reset(at(1))),
+        8 if at(1) < n => Some(Op::Correct(at(1), at(2) + 256 * at(3))),
         _ => None,
     }
 }
@@ -204,6 +210,8 @@ fn encode(op: Op) -> [u8; 4] {
         Op::Swap(c, t) => (4, c, t, 0),
         Op::Multiplier(q, u) => (5, q, 0, u),
         Op::Measure(q) => (6, q, 0, 0),
+        Op::Reset(q) => (7, q, 0, 0),
+        Op::Correct(t, m) => (8, t, m % 256, (m / 256) as i64),
     };
     [code, first as u8, second as u8, last as u8]
 }
@@ -214,7 +222,7 @@ fn last_byte(applications: i64) -> i64 {
 }
 
 /// The operation that undoes a gate: four applications of Fourier do nothing, and d of the others
-/// that have powers. A measurement has none.
+/// that have powers. A measurement, a reset and a correction have none.
 fn undoing(d: i64, op: Op) -> Option<Op> {
     match op {
         Op::Fourier(q, k) => Some(Op::Fourier(q, 4 - k)),
@@ -223,15 +231,16 @@ fn undoing(d: i64, op: Op) -> Option<Op> {
         Op::Cz(c, t, k) => Some(Op::Cz(c, t, d - k)),
         Op::Swap(c, t) => Some(Op::Swap(c, t)),
         Op::Multiplier(q, u) => Some(Op::Multiplier(q, inverse(d, u))),
-        Op::Measure(_) => None,
+        Op::Measure(_) | Op::Reset(_) | Op::Correct(..) => None,
     }
 }
 
-/// The gate on one row, each of its applications by itself; a measurement does nothing here.
+/// The gate on one row, each of its applications by itself. What is no gate is not done here.
 pub fn gate(d: i64, op: Op, row: &mut Row) {
     let times = match op {
         Op::Fourier(_, k) | Op::Phase(_, k) | Op::Sum(_, _, k) | Op::Cz(_, _, k) => k,
-        Op::Swap(..) | Op::Multiplier(..) | Op::Measure(_) => 1,
+        Op::Swap(..) | Op::Multiplier(..) => 1,
+        Op::Measure(_) | Op::Reset(_) | Op::Correct(..) => panic!("{op:?} is no gate"),
     };
     for _ in 0..times {
         gate_once(d, op, row);
@@ -269,7 +278,7 @@ fn gate_once(d: i64, op: Op, row: &mut Row) {
             row.a[q] = row.a[q] * u % d;
             row.b[q] = row.b[q] * inverse(d, u) % d;
         }
-        Op::Measure(_) => {}
+        Op::Measure(_) | Op::Reset(_) | Op::Correct(..) => unreachable!("{op:?} is no gate"),
     }
 }
 
@@ -286,6 +295,14 @@ pub struct Error {
 pub fn apply_error(d: i64, error: Error, row: &mut Row) {
     let Error { q, p, s, .. } = error;
     row.r = modulo(d, row.r + s * row.a[q] - p * row.b[q]);
+}
+
+/// X to the minus so many on qudit q, on every row. It acts as an error X^p does, with p below 0.
+fn lower(d: i64, rows: &mut [Row], q: usize, by: i64) {
+    let (place, p, s) = (0, -by, 0);
+    let lowering = Error { place, q, p, s };
+    rows.iter_mut()
+        .for_each(|row| apply_error(d, lowering, row));
 }
 
 // ---- Measurement
@@ -340,6 +357,12 @@ fn measure(d: i64, n: usize, rows: &mut [Row], q: usize, choice: i64) -> [u8; 2]
     }
 }
 
+/// Resets q: it is measured, and X to the minus outcome is applied.
+fn reset(d: i64, n: usize, rows: &mut [Row], q: usize, choice: i64) {
+    let [outcome, _] = measure(d, n, rows, q, choice);
+    lower(d, rows, q, outcome.into());
+}
+
 // ---- Stabilizer sets
 
 /// Whether v is a member of the stabilizer set of a valid tableau: a product of powers of its
@@ -374,8 +397,10 @@ pub struct Book {
 }
 
 impl Book {
+    /// How many results there are: those of code 6.
     pub fn measurements(&self) -> usize {
-        count_measurements(&self.operations)
+        let measures = |op: &&Op| matches!(op, Op::Measure(_));
+        self.operations.iter().filter(measures).count()
     }
 
     /// The errors of place k, in the order of their entries. Places never fall.
@@ -386,11 +411,10 @@ impl Book {
     }
 }
 
-fn count_measurements(operations: &[Op]) -> usize {
-    operations
-        .iter()
-        .filter(|o| matches!(o, Op::Measure(_)))
-        .count()
+/// How many choices these operations take: one for each of the codes 6 and 7.
+fn count_choices(operations: &[Op]) -> usize {
+    let takes_one = |op: &&Op| matches!(op, Op::Measure(_) | Op::Reset(_));
+    operations.iter().filter(takes_one).count()
 }
 
 /// Refusals 2 and 3.
@@ -414,7 +438,7 @@ pub fn read(book: &[u8]) -> Result<Book, Returned> {
     let [first, second, third] = read_contents(book)?;
     let operations = read_operations(d, n, first)?;
     let errors = read_errors(d, n, operations.len(), second)?;
-    let choices = read_choices(d, count_measurements(&operations), third)?;
+    let choices = read_choices(d, count_choices(&operations), third)?;
     Ok(Book {
         d,
         n,
@@ -449,10 +473,19 @@ pub fn read_contents(book: &[u8]) -> Result<[&[u8]; 3], Returned> {
 }
 
 fn read_operations(d: i64, n: usize, body: &[u8]) -> Result<Vec<Op>, Returned> {
-    let entries = body.chunks(4).enumerate();
-    entries
-        .map(|(i, entry)| decode(d, n, entry).ok_or((5, i)))
-        .collect()
+    let mut operations = Vec::new();
+    let mut measured = 0;
+    for (i, entry) in body.chunks(4).enumerate() {
+        let op = decode(d, n, entry).ok_or((5, i))?;
+        match op {
+            // Measurement m comes earlier if more than m of them do.
+            Op::Correct(_, m) if m >= measured => return Err((5, i)),
+            Op::Measure(_) => measured += 1,
+            _ => {}
+        }
+        operations.push(op);
+    }
+    Ok(operations)
 }
 
 fn read_errors(d: i64, n: usize, operations: usize, body: &[u8]) -> Result<Vec<Error>, Returned> {
@@ -475,9 +508,9 @@ fn read_errors(d: i64, n: usize, operations: usize, body: &[u8]) -> Result<Vec<E
     Ok(errors)
 }
 
-fn read_choices(d: i64, measurements: usize, body: &[u8]) -> Result<Vec<i64>, Returned> {
-    if body.len() != measurements {
-        return Err((7, body.len().min(measurements)));
+fn read_choices(d: i64, taken: usize, body: &[u8]) -> Result<Vec<i64>, Returned> {
+    if body.len() != taken {
+        return Err((7, body.len().min(taken)));
     }
     let choices: Vec<i64> = body.iter().map(|&c| i64::from(c)).collect();
     match choices.iter().position(|&c| c >= d) {
@@ -623,7 +656,7 @@ pub fn direct_run(book: &[u8], tableau: &mut [u8], results: &mut [u8]) -> Return
         Ok(book) => book,
         Err(returned) => return returned,
     };
-    let (d, n) = (book.d, book.n);
+    let n = book.n;
     if tableau.len() < tableau_len(n) || results.len() < 2 * book.measurements() {
         return (8, 0);
     }
@@ -631,23 +664,38 @@ pub fn direct_run(book: &[u8], tableau: &mut [u8], results: &mut [u8]) -> Return
         return (9, 0);
     }
     let mut rows = rows_of(n, &tableau[ROWS..]);
-    let mut done = 0;
+    strike_all(&book, &mut rows, results);
+    tableau[ROWS..tableau_len(n)].copy_from_slice(&bytes_of(&rows));
+    (0, book.measurements())
+}
+
+/// All operations and errors of a direct run.
+fn strike_all(book: &Book, rows: &mut [Row], results: &mut [u8]) {
+    let (d, n) = (book.d, book.n);
+    let (mut choices, mut done) = (book.choices.iter(), 0);
     for k in 0..=book.operations.len() {
         for error in book.errors_at(k) {
             rows.iter_mut().for_each(|row| apply_error(d, error, row));
         }
-        match book.operations.get(k) {
-            None => {}
-            Some(&Op::Measure(q)) => {
-                let result = measure(d, n, &mut rows, q, book.choices[done]);
+        let Some(&op) = book.operations.get(k) else {
+            break;
+        };
+        match op {
+            Op::Measure(q) => {
+                let result = measure(d, n, rows, q, next(&mut choices));
                 results[2 * done..2 * done + 2].copy_from_slice(&result);
                 done += 1;
             }
-            Some(&op) => rows.iter_mut().for_each(|row| gate(d, op, row)),
+            Op::Reset(q) => reset(d, n, rows, q, next(&mut choices)),
+            Op::Correct(t, m) => lower(d, rows, t, results[2 * m].into()),
+            _ => rows.iter_mut().for_each(|row| gate(d, op, row)),
         }
     }
-    tableau[ROWS..tableau_len(n)].copy_from_slice(&bytes_of(&rows));
-    (0, done)
+}
+
+/// The next choice of an accepted book.
+fn next<'a>(choices: &mut impl Iterator<Item = &'a i64>) -> i64 {
+    *choices.next().expect("as many choices as are taken")
 }
 
 /// The frame run: errors change the frame alone, and the rows' phases are shifted at the end. The
@@ -673,12 +721,12 @@ pub fn frame_run(
     }
     let mut rows = rows_of(n, &tableau[ROWS..]);
     let mut carried = identity(n);
-    let measurements = carry_all(&book, &mut rows, &mut carried, results);
+    carry_all(&book, &mut rows, &mut carried, results);
     let verdict = shift_all(d, &carried, &mut rows, shifts);
     tableau[ROWS..tableau_len(n)].copy_from_slice(&bytes_of(&rows));
     // A frame has no phase: the last byte of its row is left off.
     frame[..2 * n].copy_from_slice(&bytes_of(&[carried])[..2 * n]);
-    (0, measurements, verdict)
+    (0, book.measurements(), verdict)
 }
 
 /// The tray run: every shot is a frame run of its own, from the lent tableau, of the book with this
@@ -722,29 +770,31 @@ fn one_shot(book: &Book, rows: &[u8]) -> (usize, Vec<u8>) {
     (verdict, results)
 }
 
-/// All operations and errors of a frame run. How many measurements there were.
-fn carry_all(book: &Book, rows: &mut [Row], carried: &mut Row, results: &mut [u8]) -> usize {
-    let d = book.d;
-    let mut done = 0;
+/// All operations and errors of a frame run. The rows are corrected by the clean results.
+fn carry_all(book: &Book, rows: &mut [Row], carried: &mut Row, results: &mut [u8]) {
+    let (d, n) = (book.d, book.n);
+    let (mut choices, mut clean, mut shifts) = (book.choices.iter(), vec![], vec![]);
     for k in 0..=book.operations.len() {
         for error in book.errors_at(k) {
             carry(d, error, carried);
         }
-        match book.operations.get(k) {
-            None => {}
-            Some(&Op::Measure(q)) => {
-                let [clean, mark] = measure(d, book.n, rows, q, book.choices[done]);
-                results[2 * done] = ((i64::from(clean) + carried.a[q]) % d) as u8;
+        let Some(&op) = book.operations.get(k) else {
+            break;
+        };
+        match op {
+            Op::Measure(q) => {
+                let [outcome, mark] = measure(d, n, rows, q, next(&mut choices));
+                let (outcome, done) = (i64::from(outcome), clean.len());
+                results[2 * done] = ((outcome + carried.a[q]) % d) as u8;
                 results[2 * done + 1] = mark;
-                done += 1;
+                clean.push(outcome);
             }
-            Some(&op) => {
-                rows.iter_mut().for_each(|row| gate(d, op, row));
-                gate(d, op, carried);
-            }
+            Op::Reset(q) => reset(d, n, rows, q, next(&mut choices)),
+            Op::Correct(t, m) => lower(d, rows, t, clean[m]),
+            _ => rows.iter_mut().for_each(|row| gate(d, op, row)),
         }
+        carry_through(d, op, carried, &mut shifts);
     }
-    done
 }
 
 /// Adds each row's shift to its phase. The verdict is that of the stabilizers, rows n to 2n − 1.
@@ -768,34 +818,47 @@ fn carry(d: i64, error: Error, frame: &mut Row) {
     frame.b[error.q] = (frame.b[error.q] + error.s) % d;
 }
 
-/// What the errors and the gates of a book make of a frame that comes from elsewhere. The phase of
-/// its row means nothing.
+/// What an operation makes of the frame, and of the shifts that the results before it have. A
+/// measurement leaves the frame, and its result has the frame's X power as shift. A reset takes that
+/// power away, and a correction takes the shift of its measurement out of that of its target.
+fn carry_through(d: i64, op: Op, frame: &mut Row, shifts: &mut Vec<i64>) {
+    match op {
+        Op::Measure(q) => shifts.push(frame.a[q]),
+        Op::Reset(q) => frame.a[q] = 0,
+        Op::Correct(t, m) => frame.a[t] = modulo(d, frame.a[t] - shifts[m]),
+        _ => gate(d, op, frame),
+    }
+}
+
+/// What the errors and the operations of a book make of a frame that comes from elsewhere. The phase
+/// of its row means nothing.
 pub fn carried_on(book: &Book, mut frame: Row) -> Row {
+    let mut shifts = Vec::new();
     for k in 0..=book.operations.len() {
         for error in book.errors_at(k) {
             carry(book.d, error, &mut frame);
         }
         if let Some(&op) = book.operations.get(k) {
-            gate(book.d, op, &mut frame);
+            carry_through(book.d, op, &mut frame, &mut shifts);
         }
     }
     frame
 }
 
-/// Each choice of the book raised by the X power that the frame of its errors has on the measured
-/// qudit just before that measurement.
+/// Each choice of the book raised by the X power that the frame of its errors has on the qudit that
+/// is measured or reset, just before that.
 pub fn raised_choices(book: &Book) -> Vec<u8> {
     let mut carried = identity(book.n);
-    let mut raised = Vec::new();
+    let (mut raised, mut shifts) = (Vec::new(), Vec::new());
     for (k, &op) in book.operations.iter().enumerate() {
         for error in book.errors_at(k) {
             carry(book.d, error, &mut carried);
         }
-        if let Op::Measure(q) = op {
+        if let Op::Measure(q) | Op::Reset(q) = op {
             let choice = book.choices[raised.len()];
             raised.push(((choice + carried.a[q]) % book.d) as u8);
         }
-        gate(book.d, op, &mut carried);
+        carry_through(book.d, op, &mut carried, &mut shifts);
     }
     raised
 }

@@ -1,7 +1,8 @@
 //! Tray runs by the library, by the plain reference and by separate frame runs.
 
 use super::frames::Buffers;
-use super::{Rng, UNWRITTEN, draw_error, draw_gate, draw_tableau, plain, with_tail, zero_tableau};
+use super::{Rng, UNWRITTEN, draw_error, draw_gate, draw_named, draw_tableau};
+use super::{plain, with_tail, zero_tableau};
 use cagvost::book::{Book, Operation, WeylError};
 use cagvost::{Refusal, Tray, TrayCounts};
 
@@ -97,7 +98,8 @@ pub fn tray_both(before: &Lent) -> (Returned, Vec<u8>) {
 fn one_by_one(before: &Lent, out: &[u8]) {
     let bodies = plain::tray_bodies(&before.tray).expect("an accepted tray");
     let [operations, _, choices] = plain::read_contents(&before.book).expect("an accepted book");
-    let (d, n, width) = (before.book[1], before.book[2], 1 + 2 * choices.len());
+    let (d, n) = (before.book[1], before.book[2]);
+    let width = 1 + 2 * measurements_in(operations);
     for (i, body) in bodies.iter().enumerate() {
         let row = separate([operations, body, choices], d, n, &before.tableau);
         let same = row == out[i * width..(i + 1) * width];
@@ -107,10 +109,16 @@ fn one_by_one(before: &Lent, out: &[u8]) {
     assert!(out[end..] == before.out[end..], "bytes past the shots");
 }
 
+/// How many results the operations of an accepted book give: one for each of code 6.
+pub fn measurements_in(operations: &[u8]) -> usize {
+    let entries = operations.chunks_exact(4);
+    entries.filter(|entry| entry[0] == 6).count()
+}
+
 /// The verdict and the results of a separate frame run of the book that is written of these bodies.
 pub fn separate(bodies: [&[u8]; 3], d: u8, n: u8, tableau: &[u8]) -> Vec<u8> {
     let book = written(bodies, d, n);
-    let mut run = Buffers::zero(d, n, bodies[2].len());
+    let mut run = Buffers::zero(d, n, measurements_in(bodies[0]));
     run.tableau = tableau.to_vec();
     let (number, _, verdict) = run.by_library(&book);
     assert_eq!(number, 0, "{bodies:02x?}");
@@ -156,6 +164,55 @@ pub fn draw_circuit_of(
         }
     }
     book
+}
+
+/// How many operations of each kind a circuit has in which qudits are reused.
+#[derive(Clone, Copy, Debug)]
+pub struct Reused {
+    pub gates: usize,
+    pub measurements: usize,
+    pub resets: usize,
+    pub corrections: usize,
+}
+
+/// A book without errors that has just so many operations of each kind, in drawn order but that a
+/// measurement comes before all corrections. Of the corrections, half are by the last result.
+pub fn draw_reused(rng: &mut Rng, d: u8, n: u8, counts: Reused) -> Book {
+    let mut book = Book::new(d, n);
+    let mut left = [
+        counts.gates,
+        counts.measurements,
+        counts.resets,
+        counts.corrections,
+    ];
+    let mut last = 0;
+    while left.iter().any(|&count| count > 0) {
+        let named = draw_named(rng, &book);
+        let kind = draw_kind(rng, &left, named.is_some());
+        left[kind] -= 1;
+        if !rng.once_in(4) {
+            last = rng.byte_below(n);
+        }
+        match (kind, named) {
+            (0, _) => book.operation(draw_gate(rng, d, n)),
+            (1, _) => book.measure(last, rng.byte_below(d)),
+            (2, _) => book.reset(last, rng.byte_below(d)),
+            (_, m) => book.correct(rng.byte_below(n), m.expect("a measurement")),
+        };
+    }
+    book
+}
+
+/// One of the kinds that are left, by their numbers; the last of them only where it may be.
+fn draw_kind(rng: &mut Rng, left: &[usize; 4], last_may_be: bool) -> usize {
+    let kinds = if last_may_be { &left[..] } else { &left[..3] };
+    let mut at = rng.below(kinds.iter().sum());
+    let kind = kinds.iter().position(|&count| {
+        let is_here = at < count;
+        at = at.wrapping_sub(count);
+        is_here
+    });
+    kind.expect("one is left")
 }
 
 /// So many errors that are not the identity, at drawn places of a circuit of this book.
