@@ -70,27 +70,27 @@ fn compare_many(books: usize, least: u8, most: u8, operations: usize) {
 
 #[test]
 fn one_qudit() {
-    compare_many(400, 1, 1, 60);
+    compare_many(700, 1, 1, 60);
 }
 
 #[test]
 fn two_to_four_qudits() {
-    compare_many(400, 2, 4, 80);
+    compare_many(700, 2, 4, 80);
 }
 
 #[test]
 fn five_to_twelve_qudits() {
-    compare_many(100, 5, 12, 150);
+    compare_many(160, 5, 12, 150);
 }
 
 #[test]
 fn thirteen_to_32_qudits() {
-    compare_many(20, 13, 32, 300);
+    compare_many(30, 13, 32, 300);
 }
 
 #[test]
 fn thirty_three_to_64_qudits() {
-    compare_many(6, 33, 64, 400);
+    compare_many(9, 33, 64, 400);
 }
 
 /// Every number of qudits at least once, in every dimension by turns.

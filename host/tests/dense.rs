@@ -1,6 +1,7 @@
 //! Both runs against a state vector: rows fix the state, marks and outcomes are its own, a frame
 //! leads from the state without errors to the one with errors, and the verdict says whether these
-//! are the same. A circuit and then its mirror give back the state vector.
+//! are the same. A reset brings its qudit to level 0 there, and a correction lowers its target by the
+//! reported result. A circuit and then its mirror give back the state vector.
 
 use crate::common;
 
@@ -8,7 +9,7 @@ use cagvost::Verdict;
 use cagvost::book::{Book, DIMENSIONS, Operation, WeylError};
 use common::dense::{State, levels};
 use common::trays::{draw_circuit, draw_errors};
-use common::{ROWS, Rng, Shape, UNWRITTEN, Verdicts, paper_book, with_times};
+use common::{ROWS, Rng, Shape, UNWRITTEN, Verdicts, paper_book, with_raised_choices, with_times};
 use common::{cz, draw_book, draw_error, every_factor, sum, times, zero_tableau};
 use common::{every_gate, operations_of};
 
@@ -19,12 +20,16 @@ const CLOSE: f64 = 1e-9;
 const LEVELS: usize = 1000;
 
 /// How many measurements were seen free, certain with an outcome other than 0, and reported by a
-/// frame run with another result than without errors; and the verdicts of frame runs.
+/// frame run with another result than without errors; how many resets free and from a certain level
+/// other than 0, and how many corrections by a result other than 0; and the verdicts of frame runs.
 #[derive(Default)]
 struct Seen {
     free: usize,
     certain: usize,
     moved: usize,
+    free_resets: usize,
+    certain_resets: usize,
+    corrections: usize,
     verdicts: Verdicts,
 }
 
@@ -40,9 +45,6 @@ fn follow(book: &Book, seen: &mut Seen) -> Followed {
     let mut tableau = zero_tableau(book.dimension(), book.qudits());
     let mut results = vec![UNWRITTEN; cagvost::results_len(book.measurements())];
     cagvost::direct_run(&book.to_bytes(), &mut tableau, &mut results).expect("an accepted book");
-    for (result, choice) in results.chunks(2).zip(book.choices()) {
-        assert!(result[1] == 0 || result[0] == *choice, "{book:?}");
-    }
     let state = replay(book, &results, seen);
     check_rows(&tableau, &state, book);
     Followed {
@@ -80,11 +82,13 @@ fn carry(book: &Book) -> Carried {
     }
 }
 
-/// Carries the book's errors as a frame, and applies them to the state vector: the reported results
-/// are possible there, the shifted rows fix it, and the frame makes it of the state without errors.
+/// Carries the book's errors as a frame, and applies them to the state vector, where the choices are
+/// raised: the reported results are those there, the shifted rows fix it, and the frame makes it of
+/// the state without errors.
 fn follow_frame(book: &Book, seen: &mut Seen) -> Carried {
     let carried = carry(book);
-    let state = replay(book, &carried.results, &mut Seen::default());
+    let raised = with_raised_choices(book);
+    let state = replay(&raised, &carried.results, &mut Seen::default());
     check_rows(&carried.tableau, &state, book);
     let clean = follow(&book.without_errors(), &mut Seen::default());
     check_shifts(&carried, &clean.tableau, book);
@@ -168,10 +172,12 @@ fn check_shifts(carried: &Carried, clean: &[u8], book: &Book) {
     assert_eq!(carried.verdict == Verdict::Shifted, shifted, "{book:?}");
 }
 
-/// The state after the book, each measurement checked with the result that the run gave.
+/// The state after the book, each measurement checked with the result that the run gave. A correction
+/// is by that result, and a reset by the outcome that the state has.
 fn replay(book: &Book, results: &[u8], seen: &mut Seen) -> State {
     let mut state = State::zero(book.dimension().into(), book.qudits().into());
-    let mut measured = results.chunks(2);
+    let (mut measured, mut choices) = (results.chunks(2), book.choices().iter());
+    let mut choice = || *choices.next().expect("a choice");
     for k in 0..=book.operations().len() {
         for &error in book.errors().iter().filter(|e| usize::from(e.place) == k) {
             state.apply_error(error);
@@ -180,10 +186,23 @@ fn replay(book: &Book, results: &[u8], seen: &mut Seen) -> State {
             None => {}
             Some(&Operation::Measure { q }) => {
                 let result = measured.next().expect("a result per measurement");
-                check_result(&state.probabilities(q), result, book);
+                let look = look(&state, q, book);
+                assert_eq!(result, look.unwrap_or([choice(), 1]), "{book:?}");
                 seen.free += usize::from(result[1] == 1);
                 seen.certain += usize::from(result[1] == 0 && result[0] != 0);
                 state.collapse(q, result[0].into());
+            }
+            Some(&Operation::Reset { q }) => {
+                let look = look(&state, q, book);
+                let [outcome, _] = look.unwrap_or([choice(), 1]);
+                seen.free_resets += usize::from(look.is_none());
+                seen.certain_resets += usize::from(look.is_some() && outcome != 0);
+                state.reset(q, outcome);
+            }
+            Some(&Operation::Correct { t, m }) => {
+                let result = results[2 * usize::from(m)];
+                seen.corrections += usize::from(result != 0);
+                state.lower(t, result);
             }
             Some(&gate) => state.gate(gate),
         }
@@ -191,17 +210,16 @@ fn replay(book: &Book, results: &[u8], seen: &mut Seen) -> State {
     state
 }
 
-/// A certain result has probability 1; where one is free, all outcomes are alike.
-fn check_result(probabilities: &[f64], result: &[u8], book: &Book) {
+/// The level that a measurement is certain of, with the mark for it, or nothing if it is free: then
+/// all outcomes are alike.
+fn look(state: &State, q: u8, book: &Book) -> Option<[u8; 2]> {
+    let probabilities = state.probabilities(q);
     let near = |x: f64, y: f64| (x - y).abs() < CLOSE;
-    match *result {
-        [outcome, 0] => assert!(near(probabilities[usize::from(outcome)], 1.0), "{book:?}"),
-        [_, 1] => {
-            let each = 1.0 / probabilities.len() as f64;
-            assert!(probabilities.iter().all(|&p| near(p, each)), "{book:?}");
-        }
-        _ => panic!("mark is neither 0 nor 1: {book:?}"),
-    }
+    let certain = probabilities.iter().position(|&p| near(p, 1.0));
+    let each = 1.0 / probabilities.len() as f64;
+    let alike = probabilities.iter().all(|&p| near(p, each));
+    assert!(certain.is_some() || alike, "{book:?}");
+    certain.map(|level| [level as u8, 0])
 }
 
 /// Every number of qudits whose state vector is small enough.
@@ -213,7 +231,7 @@ fn follow_drawn_circuits(d: u8) {
     let mut rng = Rng(u64::from(d));
     let mut seen = Seen::default();
     for n in small_sizes(d) {
-        for _ in 0..400 {
+        for _ in 0..600 {
             let shape = Shape {
                 d,
                 n,
@@ -226,17 +244,11 @@ fn follow_drawn_circuits(d: u8) {
             follow_frame(&book, &mut seen);
         }
     }
-    let Seen {
-        free,
-        certain,
-        moved,
-        verdicts,
-    } = seen;
-    assert!(
-        free > 100 && certain > 100 && moved > 100,
-        "free {free} certain {certain} moved {moved}"
-    );
-    verdicts.are_enough(5);
+    let results = [seen.free, seen.certain, seen.moved];
+    assert!(results.iter().all(|&count| count > 100), "{results:?}");
+    let reused = [seen.free_resets, seen.certain_resets, seen.corrections];
+    assert!(reused.iter().all(|&count| count > 100), "{reused:?}");
+    seen.verdicts.are_enough(5);
 }
 
 /// A test for each dimension, so that they run side by side.
@@ -261,20 +273,25 @@ drawn_circuits! {
     drawn_circuits_31: 31,
 }
 
-/// Each circuit of `length` entries, given the operations to put at each place; a measurement's
-/// choice is drawn.
+/// Each circuit of `length` entries, given the operations to put at each place; the choice of a
+/// measurement or a reset is drawn. Circuits where a correction has no result are left out.
 fn every_circuit(d: u8, n: u8, alphabet: &[Operation], length: u32) -> impl Iterator<Item = Book> {
     let mut rng = Rng(7);
-    (0..alphabet.len().pow(length)).map(move |code| {
+    (0..alphabet.len().pow(length)).filter_map(move |code| {
         let mut book = Book::new(d, n);
         for i in 0..length {
             let operation = alphabet[code / alphabet.len().pow(i) % alphabet.len()];
-            book.operation(operation);
-            if let Operation::Measure { .. } = operation {
-                book.choice(rng.byte_below(d));
+            match operation {
+                Operation::Measure { .. } | Operation::Reset { .. } => {
+                    book.operation(operation).choice(rng.byte_below(d));
+                }
+                Operation::Correct { m, .. } if usize::from(m) >= book.measurements() => {
+                    return None;
+                }
+                _ => _ = book.operation(operation),
             }
         }
-        book
+        Some(book)
     })
 }
 
@@ -341,6 +358,42 @@ fn every_short_circuit_on_two_qutrits() {
         Operation::Swap { c: 0, t: 1 },
         Operation::Measure { q: 0 },
         Operation::Measure { q: 1 },
+    ];
+    follow_every_circuit(3, 2, &alphabet, 4);
+    follow_every_error(3, 2, &alphabet, 3);
+}
+
+/// Resets and corrections among the gates that make them free and certain: of the first result, and
+/// of the second, by which a slip in the counting shows.
+#[test]
+fn every_short_circuit_with_resets_and_corrections_on_one_qudit() {
+    let alphabet = [
+        Operation::Fourier { q: 0, times: 1 },
+        Operation::PhaseGate { q: 0, times: 1 },
+        Operation::Measure { q: 0 },
+        Operation::Reset { q: 0 },
+        Operation::Correct { t: 0, m: 0 },
+        Operation::Correct { t: 0, m: 1 },
+    ];
+    for d in [3, 5] {
+        follow_every_circuit(d, 1, &alphabet, 5);
+        follow_every_error(d, 1, &alphabet, 4);
+    }
+}
+
+/// A reset of one of two entangled qudits moves the other, and a result of one corrects the other.
+#[test]
+fn every_short_circuit_with_resets_and_corrections_on_two_qutrits() {
+    let alphabet = [
+        Operation::Fourier { q: 0, times: 1 },
+        Operation::Fourier { q: 1, times: 1 },
+        sum(0, 1),
+        Operation::Measure { q: 0 },
+        Operation::Measure { q: 1 },
+        Operation::Reset { q: 0 },
+        Operation::Reset { q: 1 },
+        Operation::Correct { t: 0, m: 0 },
+        Operation::Correct { t: 1, m: 0 },
     ];
     follow_every_circuit(3, 2, &alphabet, 4);
     follow_every_error(3, 2, &alphabet, 3);

@@ -162,7 +162,7 @@ fn shape(rng: &mut Rng, d: u8, n: u8, most: usize) -> Shape {
 /// Carries the errors of a book and applies them in the book with raised choices: demand 3, in every
 /// byte of the tableau, and both runs leave the book's d and n before the rows. Then leaves the errors
 /// out: the verdict is clean exactly if that run ends with the same stabilizer set.
-fn framed_and_direct(rng: &mut Rng, book: &Book, tableau: Vec<u8>, seen: &mut Verdicts) {
+pub fn framed_and_direct(rng: &mut Rng, book: &Book, tableau: Vec<u8>, seen: &mut Verdicts) {
     let (d, n, first) = (book.dimension(), book.qudits(), book.to_bytes());
     let before = Buffers::drawn(rng, n, book.measurements(), tableau);
     let run = |book: &Book| run_both(&book.to_bytes(), &before.tableau, &before.results);
@@ -202,17 +202,17 @@ fn carry_many(books: usize, least: u8, most: u8, operations: usize) -> Verdicts 
 
 #[test]
 fn one_to_four_qudits() {
-    carry_many(300, 1, 4, 80).are_enough(50);
+    carry_many(500, 1, 4, 80).are_enough(50);
 }
 
 #[test]
 fn five_to_twenty_qudits() {
-    carry_many(40, 5, 20, 150);
+    carry_many(60, 5, 20, 150);
 }
 
 #[test]
 fn twenty_one_to_64_qudits() {
-    carry_many(5, 21, 64, 300);
+    carry_many(8, 21, 64, 300);
 }
 
 #[test]

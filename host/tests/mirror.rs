@@ -573,17 +573,17 @@ impl Handed {
 type Fault = (Returned, fn(&mut Handed));
 
 /// One fault of the small book for each number, in the order in which they are tested. Operations 2
-/// and 3 become measurements, which have their choices.
+/// and 3 become a reset and a measurement, which have their choices.
 const FAULTS: [Fault; 9] = [
     ((1, 0), |h| h.mark = 80),
     ((2, 0), |h| h.d = 9),
     ((3, 0), |h| h.n = 65),
     ((4, 1), |h| h.bodies[1].push(0)),
-    ((5, 1), |h| h.bodies[0][4] = 7),
+    ((5, 1), |h| h.bodies[0][4] = 9),
     ((6, 1), |h| h.bodies[1][8] = 255),
     ((7, 0), |h| h.bodies[2].push(255)),
     ((12, 2), |h| {
-        h.bodies[0][8..].copy_from_slice(&[6, 1, 0, 0, 6, 2, 0, 0]);
+        h.bodies[0][8..].copy_from_slice(&[7, 1, 0, 0, 6, 2, 0, 0]);
         h.bodies[2].resize(2, 4);
     }),
     ((8, 0), |h| h.out.truncate(37)),
@@ -632,12 +632,19 @@ fn bad_errors_are_refused_though_they_are_dropped() {
 
 // ---- Measurements
 
-/// A book of so many operations: measurements at these places, each with a choice, and else gates.
+/// A book of so many operations: measurements and resets at these places, each with a choice, a
+/// correction behind a measurement by chance, and else gates.
 fn measured_at(rng: &mut Rng, operations: usize, places: &[usize]) -> Vec<u8> {
     let mut book = Book::new(7, 3);
+    let mut measured = 0;
     for k in 0..operations {
-        if places.contains(&k) {
+        if places.contains(&k) && rng.once_in(2) {
             book.measure(rng.byte_below(3), rng.byte_below(7));
+            measured += 1;
+        } else if places.contains(&k) {
+            book.reset(rng.byte_below(3), rng.byte_below(7));
+        } else if measured > 0 && rng.once_in(3) {
+            book.correct(rng.byte_below(3), measured - 1);
         } else {
             book.operation(draw_gate(rng, 7, 3));
         }
@@ -645,11 +652,12 @@ fn measured_at(rng: &mut Rng, operations: usize, places: &[usize]) -> Vec<u8> {
     book.to_bytes()
 }
 
-/// One alone, as the first and as the last operation too, or several.
+/// One alone, as the first and as the last operation too, or several; and the same with resets.
 #[test]
-fn the_first_measurement_is_named_by_its_operation() {
+fn the_first_measurement_or_reset_is_named_by_its_operation() {
     let mut rng = Rng(14);
-    for (first, next) in (0..9).flat_map(|first| (first..9).map(move |next| (first, next))) {
+    let places = (0..9).flat_map(|first| (first..9).map(move |next| (first, next)));
+    for (first, next) in places.flat_map(|places| [places; 8]) {
         let book = measured_at(&mut rng, 9, &[first, next, 8.max(next)]);
         assert_eq!(answer(&book), (12, first), "{book:02x?}");
         let alone = measured_at(&mut rng, next + 1, &[next]);
@@ -658,7 +666,7 @@ fn the_first_measurement_is_named_by_its_operation() {
 }
 
 #[test]
-fn the_first_measurement_of_a_full_book() {
+fn the_first_measurement_or_reset_of_a_full_book() {
     let mut rng = Rng(15);
     for first in [0, 1, 255, 256, 257, 2048, 4094, 4095] {
         let alone = measured_at(&mut rng, MAX_OPERATIONS, &[first]);
@@ -675,26 +683,41 @@ fn the_first_measurement_of_a_full_book() {
     );
 }
 
-/// A measurement that lacks its choice, or has a bad one or one too many, is refused by 7. With a good
-/// one it is refused by 12, in every buffer.
+/// A measurement or a reset that lacks its choice, or has a bad one or one too many, is refused by 7.
+/// With a good one it is refused by 12, in every buffer.
 #[test]
 fn a_measurement_comes_after_the_choices_and_before_the_buffer() {
-    let mut book = Book::new(3, 1);
-    book.operation(Operation::Fourier { q: 0, times: 1 })
-        .operation(Operation::Measure { q: 0 });
-    for (choices, expected) in [
-        (&[][..], (7, 0)),
-        (&[3], (7, 0)),
-        (&[2, 2], (7, 1)),
-        (&[2], (12, 1)),
-    ] {
-        let mut chosen = book.clone();
-        choices.iter().for_each(|&choice| _ = chosen.choice(choice));
-        for length in 0..=31 {
-            let (answer, _) = mirror_both(&chosen.to_bytes(), &vec![UNWRITTEN; length]);
-            assert_eq!(answer, expected, "{choices:?} in {length} bytes");
+    for operation in [Operation::Measure { q: 0 }, Operation::Reset { q: 0 }] {
+        let mut book = Book::new(3, 1);
+        book.operation(Operation::Fourier { q: 0, times: 1 })
+            .operation(operation);
+        for (choices, expected) in [
+            (&[][..], (7, 0)),
+            (&[3], (7, 0)),
+            (&[2, 2], (7, 1)),
+            (&[2], (12, 1)),
+        ] {
+            let mut chosen = book.clone();
+            choices.iter().for_each(|&choice| _ = chosen.choice(choice));
+            for length in 0..=31 {
+                let (answer, _) = mirror_both(&chosen.to_bytes(), &vec![UNWRITTEN; length]);
+                assert_eq!(answer, expected, "{choices:?} in {length} bytes");
+            }
         }
     }
+}
+
+/// A correction needs an earlier measurement, so that none is the first operation without an inverse:
+/// where it has no result, the book is refused by 5, and else by 12 for that measurement.
+#[test]
+fn a_correction_is_never_the_first_without_an_inverse() {
+    let mut alone = Book::new(3, 1);
+    alone.operation(Operation::Fourier { q: 0, times: 1 });
+    let mut measured = alone.clone();
+    alone.correct(0, 0);
+    assert_eq!(answer(&alone.to_bytes()), (5, 1));
+    measured.measure(0, 1).correct(0, 0).reset(0, 1);
+    assert_eq!(answer(&measured.to_bytes()), (12, 1));
 }
 
 // ---- The buffer
@@ -768,7 +791,7 @@ fn every_single_byte_damage_of_two_books() {
 fn drawn_books_damaged_a_few_times() {
     let mut rng = Rng(18);
     let mut numbers = [0; 13];
-    for i in 0..20_000 {
+    for i in 0..24_000 {
         let mut shape = Shape::small(&mut rng);
         if i % 2 == 0 {
             shape.measure_one_in = usize::MAX;
@@ -792,7 +815,7 @@ fn long_books_damaged_once() {
     let book = draw_full(&mut rng, 5, MAX_ERRORS).0.to_bytes();
     for _ in 0..300 {
         let place = rng.below(book.len());
-        answer(&with_byte(&book, place, rng.byte_below(9)));
+        answer(&with_byte(&book, place, rng.byte_below(10)));
     }
 }
 

@@ -10,11 +10,9 @@ use cagvost::Tray;
 use cagvost::book::{Book, DIMENSIONS, MAX_QUDITS, Operation, WeylError};
 use common::dense::levels;
 use common::frames::{Buffers, carry_both};
-use common::plain::{self, Returned};
+use common::plain;
 use common::trays::{Lent, draw_errors, draw_tray, tray_both};
-use common::{
-    BODIES, ROWS, Rng, Shape, UNWRITTEN, mirror_both, named, run_both, slices, write_both,
-};
+use common::{BODIES, ROWS, Rng, Shape, named, refused, run_both, slices, write_both};
 use common::{cz, draw_book, draw_gate, draw_noisy, draw_tableau, most_times, sum, times_of};
 use common::{every_power, gates_on, shuffled, with_tail, with_times};
 
@@ -35,21 +33,24 @@ fn last_bytes(d: u8, code: u8) -> Vec<u8> {
     match code {
         0 => vec![0, 2, 3],                                  // Fourier, whatever d is
         1..=3 => [0].into_iter().chain(2..=d - 1).collect(), // phase gate, SUM, CZ
-        4 | 6 => vec![0],                                    // swap, measure
+        4 | 6 | 7 => vec![0],                                // swap, measure, reset
         5 => (1..=d - 1).collect(),                          // multiplier: its factor
-        _ => vec![],                                         // no operation
+        _ => vec![], // a correction without a result, or no operation
     }
 }
 
 /// A book of five drawn gates and a measurement, with errors, that has these entries in place of
-/// some of the gates. Each measurement among them gets its choice.
+/// some of the gates. Each measurement and each reset among them gets its choice.
 fn book_with(rng: &mut Rng, d: u8, n: u8, entries: &[(usize, [u8; 4])]) -> Vec<u8> {
     let mut book = draw_noisy(rng, d, n);
     for _ in 0..5 {
         book.operation(draw_gate(rng, d, n));
     }
     book.error(0, 1, d - 1).measure(n - 1, rng.byte_below(d));
-    for _ in entries.iter().filter(|(_, entry)| entry[0] == 6) {
+    for _ in entries
+        .iter()
+        .filter(|(_, entry)| [6, 7].contains(&entry[0]))
+    {
         book.choice(rng.byte_below(d));
     }
     let mut bytes = book.to_bytes();
@@ -59,47 +60,11 @@ fn book_with(rng: &mut Rng, d: u8, n: u8, entries: &[(usize, [u8; 4])]) -> Vec<u
     bytes
 }
 
-/// What both runs, the tray run and the writer say to a book with a good table of contents, which
-/// must be the same: nothing, or the refusal. Only the book can be wrong. The mirror says the same,
-/// but that it refuses a good book by 12, for its measurement.
-fn refused(rng: &mut Rng, book: &[u8]) -> Option<Returned> {
-    let bodies = plain::read_contents(book).expect("a good table of contents");
-    let bodies = bodies.map(<[u8]>::to_vec);
-    let (d, n, measurements) = (book[1], book[2], bodies[2].len());
-    let tableau = draw_tableau(rng, d, n);
-    let before = Buffers::drawn(rng, n, measurements, tableau);
-    let mut tray = Tray::new();
-    tray.body(&bodies[1]).body(&[]).body(&[1, 0, 0, 1, 1]);
-    let lent = Lent {
-        book: book.to_vec(),
-        tray: tray.to_bytes(),
-        tableau: before.tableau.clone(),
-        out: rng.bytes(cagvost::shots_len(tray.shots(), measurements)),
-    };
-    let direct = run_both(book, &before.tableau, &before.results).returned;
-    let framed = carry_both(book, &before).0;
-    let shots = tray_both(&lent).0;
-    let written = write_both(&bodies, d.into(), n.into(), &vec![UNWRITTEN; book.len()]).0;
-    let mirrored = mirror_both(book, &vec![UNWRITTEN; book.len()]).0;
-    let returned = [(framed.0, framed.1), (shots.0, shots.1), written];
-    if direct.0 == 0 {
-        assert!(
-            returned.iter().all(|r| r.0 == 0),
-            "{book:02x?}: {returned:?}"
-        );
-        assert_eq!(mirrored.0, 12, "{book:02x?}");
-        return None;
-    }
-    assert_eq!(returned, [direct; 3], "{book:02x?}");
-    assert_eq!(mirrored, direct, "{book:02x?}");
-    Some(direct)
-}
-
 /// Every last byte after every code, in an entry that is not the first.
 #[test]
 fn every_last_byte_after_every_code() {
     let mut rng = Rng(50);
-    let codes = |d| (0..=7).chain([255]).map(move |code| (d, code));
+    let codes = |d| (0..=9).chain([255]).map(move |code| (d, code));
     let codes = DIMENSIONS.into_iter().flat_map(codes);
     for ((d, code), last) in codes.flat_map(|code| (0..=255).map(move |last| (code, last))) {
         let (n, index) = (2 + rng.byte_below(2), 1 + rng.below(4));

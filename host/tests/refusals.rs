@@ -43,7 +43,10 @@ fn mixed_book() -> Book {
         .operation(with_times(cz(2, 1), 4))
         .operation(Operation::Swap { c: 1, t: 0 })
         .operation(Operation::Multiplier { q: 1, u: 3 })
+        .reset(1, 2)
         .measure(0, 4)
+        .error(1, 3, 0)
+        .correct(2, 1)
         .error(2, 2, 2);
     book
 }
@@ -125,10 +128,10 @@ fn the_longest_book_passes_and_longer_ones_are_refused_by_4() {
 fn refusal_5_every_operation_entry() {
     let edges = |d: u8, n: u8| [0, 1, 2, d - 1, d, n - 1, n, 64, 255];
     for (d, n) in [(3, 1), (3, 2), (5, 3), (31, 64)] {
-        for code in (0..=8).chain([64, 128, 255]) {
+        for code in (0..=10).chain([64, 128, 255]) {
             for (x, y, z) in triples(&edges(d, n)) {
                 let returned = answer(&one_operation(d, n, [code, x, y, z]));
-                // A lone measurement lacks its choice.
+                // A lone measurement or reset lacks its choice, and a lone correction its result.
                 assert!([(0, 0), (5, 0), (7, 0)].contains(&returned));
             }
         }
@@ -255,11 +258,12 @@ fn refusal_7_choices() {
 fn earlier_numbers_win_over_later_ones() {
     // One fault for each number from 7 down to 1, made one upon the other.
     let mut book = mixed_book().to_bytes();
-    let [errors, choices] = [BODIES + 8 * 4, book.len() - 2];
+    let [errors, choices] = [BODIES + 10 * 4, book.len() - 3];
     let faults = [
-        (choices, 5, (7, 0)),
+        (choices + 1, 5, (7, 1)),
         (errors + 3, 5, (6, 0)),
-        (BODIES, 7, (5, 0)),
+        (errors - 2, 2, (5, 9)), // there are measurements 0 and 1
+        (BODIES, 9, (5, 0)),
         (16, 9, (4, 2)),
         (10, 9, (4, 1)),
         (4, 9, (4, 0)),
@@ -463,7 +467,7 @@ fn every_single_byte_damage_of_a_mixed_book() {
 fn drawn_books_damaged_a_few_times() {
     let mut rng = Rng(77);
     let mut numbers = [0; 11];
-    for _ in 0..20_000 {
+    for _ in 0..24_000 {
         let shape = Shape::small(&mut rng);
         let mut book = draw_book(&mut rng, shape).to_bytes();
         for _ in 0..1 + rng.below(3) {
@@ -481,7 +485,7 @@ fn long_books_damaged_once() {
     let book = draw_book(&mut rng, FULL).to_bytes();
     for _ in 0..300 {
         let place = rng.below(book.len());
-        answer(&with_byte(&book, place, rng.byte_below(9)));
+        answer(&with_byte(&book, place, rng.byte_below(10)));
     }
 }
 
@@ -507,7 +511,7 @@ fn random_bytes_as_bodies_and_tableaus() {
         let (operations, errors, choices) = (rng.below(4), rng.below(3), rng.below(3));
         let mut book = counted(operations, errors, choices).to_bytes();
         book[2] = 1 + rng.byte_below(3);
-        let end = 2 + rng.byte_below(8);
+        let end = 2 + rng.byte_below(9);
         book[BODIES..]
             .iter_mut()
             .for_each(|x| *x = rng.byte_below(end));

@@ -115,6 +115,17 @@ fn runs_start_anew_and_do_not_meet() {
     }
 }
 
+/// The operation as it stands in a book that has so many measurements before it.
+fn after_measurements(operation: Operation, measurements: usize) -> Operation {
+    match operation {
+        Operation::Correct { t, m } => Operation::Correct {
+            t,
+            m: m + measurements as u16,
+        },
+        other => other,
+    }
+}
+
 /// Where one simulation ends another begins: the same as one book of both parts.
 #[test]
 fn an_end_is_a_start() {
@@ -123,10 +134,9 @@ fn an_end_is_a_start() {
         let shape = draw_shape(&mut rng, d, 5);
         let [first, second] = [(); 2].map(|()| draw_book(&mut rng, Shape { errors: 0, ..shape }));
         let mut whole = first.clone();
-        second
-            .operations()
-            .iter()
-            .for_each(|&o| _ = whole.operation(o));
+        for &operation in second.operations() {
+            whole.operation(after_measurements(operation, first.measurements()));
+        }
         second.choices().iter().for_each(|&c| _ = whole.choice(c));
         let between = Simulation::new(&first).expect("accepted").direct();
         let end = Simulation::starting_from(&second, between.tableau)
@@ -482,6 +492,18 @@ fn refused_books() -> Vec<(Book, Refusal)> {
         (
             operation(Operation::Measure { q: 1 }),
             Refusal::Choice { index: 0 },
+        ),
+        (
+            operation(Operation::Reset { q: 1 }),
+            Refusal::Choice { index: 0 },
+        ),
+        (
+            Book::new(3, 2)
+                .reset(0, 1)
+                .correct(1, 0)
+                .measure(0, 1)
+                .clone(),
+            Refusal::Operation { index: 1 },
         ),
     ]
 }

@@ -12,6 +12,7 @@ mod inverses;
 mod mirror;
 mod powers;
 mod refusals;
+mod resets;
 mod saved;
 mod share;
 mod states;

@@ -418,18 +418,18 @@ fn run_many(trays: usize, least: u8, most: u8, operations: usize, shots: usize) 
 
 #[test]
 fn one_to_four_qudits() {
-    let seen = run_many(40, 1, 4, 80, 40);
+    let seen = run_many(60, 1, 4, 80, 40);
     assert!(seen.iter().all(|&count| count > 1000), "{seen:?}");
 }
 
 #[test]
 fn more_than_a_block_on_few_qudits() {
-    run_many(4, 1, 3, 30, 900);
+    run_many(6, 1, 3, 30, 900);
 }
 
 #[test]
 fn five_to_twenty_qudits() {
-    run_many(5, 5, 20, 150, 12);
+    run_many(8, 5, 20, 150, 12);
 }
 
 #[test]

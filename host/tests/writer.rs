@@ -124,7 +124,7 @@ const FAULTS: [Fault; 8] = [
     ((4, 0), |h| h.bodies[0].push(0)),
     ((4, 1), |h| h.bodies[1].push(0)),
     ((4, 2), |h| h.bodies[2].resize(MAX_CHOICES + 1, 0)),
-    ((5, 1), |h| h.bodies[0][4] = 7),
+    ((5, 1), |h| h.bodies[0][4] = 9),
     ((6, 0), |h| h.bodies[1][3] = 255),
     ((7, 1), |h| h.bodies[2][1] = 255),
 ];
@@ -155,7 +155,10 @@ fn the_first_bad_entry_is_named() {
     // It has four operations, two of them measurements.
     let handed = Handed::of(&paper_book());
     for (i, body, expected) in [
-        (0, vec![0, 0, 0, 0, 7, 0, 0, 0, 6, 2, 0, 0], (5, 1)),
+        (0, vec![0, 0, 0, 0, 9, 0, 0, 0, 6, 2, 0, 0], (5, 1)),
+        // A correction by the measurement that comes next, and one by an earlier and by none.
+        (0, vec![8, 0, 0, 0, 6, 0, 0, 0, 6, 1, 0, 0], (5, 0)),
+        (0, vec![6, 0, 0, 0, 8, 0, 0, 0, 8, 1, 1, 0], (5, 2)),
         // A place after the end, and a place that falls.
         (1, vec![4, 0, 1, 1, 0, 5, 0, 1, 1, 0, 9, 9, 9, 9, 9], (6, 1)),
         (1, vec![3, 0, 1, 1, 0, 2, 0, 1, 1, 0, 9, 9, 9, 9, 9], (6, 1)),
@@ -365,12 +368,12 @@ fn damage(rng: &mut Rng, handed: &mut Handed) {
     match rng.below(16) {
         0 => handed.d = rng.below(300),
         1 => handed.n = rng.below(300),
-        2 => body.insert(place, rng.byte_below(8)),
+        2 => body.insert(place, rng.byte_below(10)),
         3 => body.truncate(place),
         4 => drop(body.drain(place..(place + [4, 5, 1][i]).min(body.len()))),
         5 => body.resize(place + [16_385, 10_241, 4097][i], 0),
         6 => body.resize(place + 65_536, 0),
-        _ if place < body.len() => body[place] = rng.byte_below(8),
+        _ if place < body.len() => body[place] = rng.byte_below(10),
         _ => body.extend([0; 5].iter().take([4, 5, 1][i])),
     }
 }
@@ -405,7 +408,7 @@ fn long_bodies_damaged_once() {
         let mut damaged = handed.clone();
         let body = &mut damaged.bodies[rng.below(3)];
         let place = rng.below(body.len());
-        body[place] = rng.byte_below(9);
+        body[place] = rng.byte_below(10);
         damaged.answer();
     }
 }
