@@ -654,7 +654,7 @@ fn measured_at(rng: &mut Rng, operations: usize, places: &[usize]) -> Vec<u8> {
 
 /// One alone, as the first and as the last operation too, or several; and the same with resets.
 #[test]
-fn the_first_measurement_or_reset_is_named_by_its_operation() {
+fn the_first_measurement_is_named_by_its_operation() {
     let mut rng = Rng(14);
     let places = (0..9).flat_map(|first| (first..9).map(move |next| (first, next)));
     for (first, next) in places.flat_map(|places| [places; 8]) {
@@ -666,7 +666,7 @@ fn the_first_measurement_or_reset_is_named_by_its_operation() {
 }
 
 #[test]
-fn the_first_measurement_or_reset_of_a_full_book() {
+fn the_first_measurement_of_a_full_book() {
     let mut rng = Rng(15);
     for first in [0, 1, 255, 256, 257, 2048, 4094, 4095] {
         let alone = measured_at(&mut rng, MAX_OPERATIONS, &[first]);

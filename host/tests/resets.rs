@@ -590,6 +590,23 @@ fn every_choice_is_below_d() {
     });
 }
 
+/// A correction behind all of them may name each measurement, and none that only a count of resets or
+/// of corrections would give.
+#[test]
+fn measurements_alone_are_named() {
+    for_every_count(28, |rng, measurements, resets, book| {
+        let index = book.operations().len();
+        for m in [0, measurements / 2, measurements.saturating_sub(1)]
+            .into_iter()
+            .chain([measurements, measurements + 1, measurements + resets, index])
+        {
+            let bytes = book.clone().correct(1, m as u16).to_bytes();
+            let expected = (m >= measurements).then_some((5, index));
+            assert_eq!(refused(rng, &bytes), expected, "{m} of {measurements}");
+        }
+    });
+}
+
 /// As many choices as a book can have, taken by both codes; one more is refused by 4 before anything
 /// is counted.
 #[test]

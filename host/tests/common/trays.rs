@@ -178,6 +178,17 @@ pub struct Reused {
 /// A book without errors that has just so many operations of each kind, in drawn order but that a
 /// measurement comes before all corrections. Of the corrections, half are by the last result.
 pub fn draw_reused(rng: &mut Rng, d: u8, n: u8, counts: Reused) -> Book {
+    draw_reused_of(draw_gate, rng, d, n, counts)
+}
+
+/// The same with gates that are drawn in this way.
+pub fn draw_reused_of(
+    gate: fn(&mut Rng, u8, u8) -> Operation,
+    rng: &mut Rng,
+    d: u8,
+    n: u8,
+    counts: Reused,
+) -> Book {
     let mut book = Book::new(d, n);
     let mut left = [
         counts.gates,
@@ -194,7 +205,7 @@ pub fn draw_reused(rng: &mut Rng, d: u8, n: u8, counts: Reused) -> Book {
             last = rng.byte_below(n);
         }
         match (kind, named) {
-            (0, _) => book.operation(draw_gate(rng, d, n)),
+            (0, _) => book.operation(gate(rng, d, n)),
             (1, _) => book.measure(last, rng.byte_below(d)),
             (2, _) => book.reset(last, rng.byte_below(d)),
             (_, m) => book.correct(rng.byte_below(n), m.expect("a measurement")),
