@@ -22,6 +22,9 @@ pub enum Mix {
     Measuring,
     /// Measurements alone, so that there are 4,096 choices: the longest book.
     Measurements,
+    /// 1,024 times a SUM onto one of the last eight qudits, its measurement, the correction of the
+    /// control by this result and the reset of that qudit, which is certain.
+    Memory,
 }
 
 impl Mix {
@@ -33,6 +36,7 @@ impl Mix {
             Mix::Multipliers => "multipliers",
             Mix::Measuring => "measuring",
             Mix::Measurements => "measurements",
+            Mix::Memory => "memory",
         }
     }
 }
@@ -53,6 +57,7 @@ pub fn full(mix: Mix, d: u8, n: u8) -> Book {
             Mix::Multipliers => _ = book.operation(multiplier(&mut rng, d, n)),
             Mix::Measuring => measuring(&mut rng, k, &mut book),
             Mix::Measurements => _ = book.measure(rng.byte_below(n), rng.byte_below(d)),
+            Mix::Memory => memory(&mut rng, k, &mut book),
         }
     }
     book
@@ -102,6 +107,22 @@ fn measuring(rng: &mut Rng, k: usize, book: &mut Book) {
     };
 }
 
+/// Adds operation k of a memory book.
+fn memory(rng: &mut Rng, k: usize, book: &mut Book) {
+    let (d, n) = (book.dimension(), book.qudits());
+    let measured = 8.min(n / 2);
+    let others = n - measured;
+    let round = k / 4;
+    let q = others + (round % usize::from(measured)) as u8;
+    let c = (round % usize::from(others)) as u8;
+    match k % 4 {
+        0 => book.operation(Operation::Sum { c, t: q, times: 1 }),
+        1 => book.measure(q, rng.byte_below(d)),
+        2 => book.correct(c, round as u16),
+        _ => book.reset(q, rng.byte_below(d)),
+    };
+}
+
 /// So many entries of one gate, without errors.
 pub fn of_one_gate(d: u8, n: u8, gate: Operation, count: usize) -> Book {
     let mut book = Book::new(d, n);
@@ -135,6 +156,34 @@ pub fn of_measurements(d: u8, n: u8, count: usize) -> Book {
     let mut book = Book::new(d, n);
     for q in (0..n).cycle().take(count) {
         book.measure(q, 1);
+    }
+    book
+}
+
+/// One measurement of qudit 0, and so many corrections of one qudit by its result.
+pub fn of_corrections(d: u8, n: u8, count: usize) -> Book {
+    let mut book = Book::new(d, n);
+    book.measure(0, 1);
+    for _ in 0..count {
+        book.correct(9 % n, 0);
+    }
+    book
+}
+
+/// So many resets, of one qudit after the other.
+pub fn of_resets(d: u8, n: u8, count: usize) -> Book {
+    let mut book = Book::new(d, n);
+    for q in (0..n).cycle().take(count) {
+        book.reset(q, 1);
+    }
+    book
+}
+
+/// As many resets as a book can have errors, of one qudit after the other, and X on it before each.
+pub fn of_struck_resets(d: u8, n: u8) -> Book {
+    let mut book = Book::new(d, n);
+    for q in (0..n).cycle().take(MAX_ERRORS) {
+        book.error(q, 1, 0).reset(q, 1);
     }
     book
 }

@@ -4,6 +4,8 @@
 //! - The circuit is run once without errors, by `tuned.rs` with the specification's phases. A shot
 //!   has its results, raised by its frame; one without errors has them as they are and takes no lane.
 //! - A power of a gate is one pass over the lanes too, on 16 bits with one reduction.
+//! - The shifts of a result that a correction names are kept, all lanes side by side, so that the
+//!   correction is one pass, wherever the results are by then.
 //! - For every place there is a linked list of the lanes whose next error is there. The library
 //!   keeps lists for 256 places at a time instead, which are easier to prove and somewhat slower.
 //! - Results are gathered in tiles of 64 measurements by 256 lanes, and transposed by shuffles of
@@ -174,11 +176,35 @@ struct Circuit<'a> {
     rows: Vec<u8>,
     results: Vec<u8>,
     modulo: Modulo,
+    kept: Kept,
 }
 
 impl Circuit<'_> {
     fn width(&self) -> usize {
         1 + self.results.len()
+    }
+}
+
+/// Which shifts are kept for corrections.
+struct Kept {
+    /// Where those of each measurement are kept, or none if no correction names it.
+    places: Vec<u16>,
+    count: usize,
+}
+
+impl Kept {
+    fn new(book: &Book) -> Kept {
+        let (mut places, mut count) = (vec![NONE; book.measurements], 0);
+        let entries = book.operations.chunks_exact(4);
+        for entry in entries.filter(|entry| entry[0] == 8) {
+            let place = &mut places[two_bytes(entry, 2)];
+            if *place == NONE {
+                *place = count;
+                count += 1;
+            }
+        }
+        let count = count.into();
+        Kept { places, count }
     }
 }
 
@@ -196,10 +222,12 @@ struct Block {
     used: usize,
     tile: [u8; TILE * LANES],
     spare: [u8; TILE * LANES],
+    /// The shifts that corrections take out.
+    kept: Vec<Line>,
 }
 
 impl Block {
-    fn new() -> Box<Block> {
+    fn new(kept: &Kept) -> Box<Block> {
         Box::new(Block {
             x: [[0; LANES]; QUDITS],
             z: [[0; LANES]; QUDITS],
@@ -211,6 +239,7 @@ impl Block {
             used: 0,
             tile: [0; TILE * LANES],
             spare: [0; TILE * LANES],
+            kept: vec![[0; LANES]; kept.count],
         })
     }
 
@@ -280,14 +309,21 @@ impl Block {
                 power(&mut self.x, &mut self.z, entry, d);
                 continue;
             }
-            if entry[0] != 6 {
+            if entry[0] < 6 {
                 gate(&mut self.x, &mut self.z, entry, &circuit.modulo);
+                continue;
+            }
+            if entry[0] > 6 {
+                self.adjust(entry, circuit);
                 continue;
             }
             let line = &mut self.tile[held * LANES..(held + 1) * LANES];
             let frame = &self.x[usize::from(entry[1]) % QUDITS];
             for (result, &x) in line.iter_mut().zip(frame) {
                 *result = add(d, x, circuit.results[2 * done]);
+            }
+            if let Some(kept) = self.kept.get_mut(usize::from(circuit.kept.places[done])) {
+                kept.copy_from_slice(frame);
             }
             (done, held) = (done + 1, held + 1);
             if held == TILE || 2 * done == circuit.results.len() {
@@ -296,6 +332,18 @@ impl Block {
             }
         }
         self.apply_errors(tray, circuit.book.operations.len() / 4, d);
+    }
+
+    /// A reset or a correction on all lanes.
+    #[inline(never)]
+    fn adjust(&mut self, entry: &[u8], circuit: &Circuit) {
+        let target = &mut self.x[usize::from(entry[1]) % QUDITS];
+        if entry[0] == 7 {
+            target.fill(0);
+            return;
+        }
+        let place = circuit.kept.places[two_bytes(entry, 2)];
+        lose(circuit.modulo.d, target, &self.kept[usize::from(place)]);
     }
 
     /// Writes the results of `held` measurements from `base` on.
@@ -377,7 +425,7 @@ pub fn tray(book: &[u8], tray: &[u8], tableau: &[u8], out: &mut [u8]) -> (usize,
         Ok(circuit) => circuit,
         Err((number, place)) => return (number, place, 0),
     };
-    let (width, mut block, mut shifted) = (circuit.width(), Block::new(), 0);
+    let (width, mut block, mut shifted) = (circuit.width(), Block::new(&circuit.kept), 0);
     for (i, [start, end]) in bodies(tray).enumerate() {
         if start == end {
             let row = &mut out[i * width..(i + 1) * width];
@@ -411,7 +459,7 @@ fn start<'a>(
     if let Some(shot) = bodies(tray).position(|[start, end]| !limits.hold(&tray[start..end])) {
         return Err((6, shot));
     }
-    let mut results = vec![0; 2 * book.choices.len()];
+    let mut results = vec![0; 2 * book.measurements];
     let tableau = tableau.get(..tableau_len(book.n)).ok_or((8, 0))?;
     if out.len() < two_bytes(tray, 0) * (1 + results.len()) {
         return Err((8, 0));
@@ -422,12 +470,14 @@ fn start<'a>(
     let (mut rows, modulo) = (tableau[ROWS..].to_vec(), Modulo::new(book.d));
     book.errors = &[];
     run_rows::<Specified>(&book, &mut rows, &mut results, &modulo);
+    let kept = Kept::new(&book);
     Ok(Circuit {
         book,
         tray,
         rows,
         results,
         modulo,
+        kept,
     })
 }
 

@@ -15,6 +15,7 @@ mod calls;
 mod common;
 mod lanes;
 mod powers;
+mod resets;
 mod shares;
 mod timing;
 mod trays;
@@ -135,6 +136,7 @@ fn runs(sizes: &Sizes) {
     full_books(sizes);
     single_operations(sizes);
     powers::powers(sizes.dimensions);
+    resets::resets(sizes.dimensions);
 }
 
 fn full_books(sizes: &Sizes) {

@@ -1,7 +1,8 @@
 //! Trays: the package beside Rust lanes, separate frame runs and the plain Rust.
 
 use crate::books::dense_tableau;
-use crate::common::trays::{Lent, Returned, draw_circuit_of, numbers, separate};
+use crate::common::trays::{Lent, Returned, Reused, numbers, separate};
+use crate::common::trays::{draw_circuit_of, draw_reused_of, measurements_in};
 use crate::common::{ROWS, Rng, draw_error, draw_gate, draw_single, plain};
 use crate::lanes;
 use crate::timing::{Times, summary};
@@ -33,7 +34,8 @@ fn separate_runs(lent: &mut Lent) -> Returned {
     let bodies = plain::tray_bodies(&lent.tray).expect("a drawn tray");
     let [operations, _, choices] = plain::read_contents(&lent.book).expect("a drawn book");
     let (d, n, mut ended) = (lent.book[1], lent.book[2], [0, 0]);
-    for (row, body) in lent.out.chunks_mut(1 + 2 * choices.len()).zip(bodies) {
+    let width = 1 + 2 * measurements_in(operations);
+    for (row, body) in lent.out.chunks_mut(width).zip(bodies) {
         let ran = separate([operations, body, choices], d, n, &lent.tableau);
         row.copy_from_slice(&ran);
         ended[usize::from(ran[0])] += 1;
@@ -49,8 +51,36 @@ struct Sizes {
     /// The mean number of errors in a shot.
     errors: f64,
     measurements: usize,
+    /// How many resets there are, and as many corrections.
+    reused: usize,
     /// Draws the gates of the circuit.
     gate: fn(&mut Rng, u8, u8) -> Operation,
+}
+
+impl Sizes {
+    /// The same with so many measurements, as many resets and as many corrections.
+    fn with_reused(self, count: usize) -> Sizes {
+        Sizes {
+            measurements: count,
+            reused: count,
+            ..self
+        }
+    }
+
+    fn circuit(self, rng: &mut Rng) -> Book {
+        let (measurements, reused) = (self.measurements, self.reused);
+        let gates = MAX_OPERATIONS - measurements - 2 * reused;
+        if reused == 0 {
+            return draw_circuit_of(self.gate, rng, self.d, self.n, gates, measurements);
+        }
+        let counts = Reused {
+            gates,
+            measurements,
+            resets: reused,
+            corrections: reused,
+        };
+        draw_reused_of(self.gate, rng, self.d, self.n, counts)
+    }
 }
 
 /// The whole tray and a few of its shots.
@@ -66,8 +96,7 @@ impl Job {
     fn drawn(sizes: Sizes) -> Job {
         let Sizes { d, n, .. } = sizes;
         let mut rng = Rng(u64::from(d) * 100 + u64::from(n));
-        let gates = MAX_OPERATIONS - sizes.measurements;
-        let book = draw_circuit_of(sizes.gate, &mut rng, d, n, gates, sizes.measurements);
+        let book = sizes.circuit(&mut rng);
         let (mut whole, mut few, mut chosen, mut empty) = (Tray::new(), Tray::new(), vec![], 0);
         for i in 0..MAX_SHOTS {
             let body = draw_body(&mut rng, &book, sizes.errors);
@@ -231,7 +260,8 @@ d   n  err. meas. empty clean    least  median   least  median    least    least
     );
 }
 
-/// Every rate of errors and number of measurements at one size, then the other sizes, then powers.
+/// Every rate of errors and number of measurements at one size, then the other sizes, then powers,
+/// then resets and corrections.
 pub fn trays() {
     compare_refusals();
     head();
@@ -240,6 +270,7 @@ pub fn trays() {
         n: 64,
         errors: 41.0,
         measurements: 64,
+        reused: 0,
         gate: draw_single,
     };
     for errors in [0.4, 4.0, 41.0, 410.0] {
@@ -262,4 +293,8 @@ pub fn trays() {
         gate: draw_gate,
         ..usual
     });
+    println!("As many resets, and as many corrections, as measurements:");
+    for count in [64, 1000] {
+        line(usual.with_reused(count));
+    }
 }

@@ -14,6 +14,8 @@
 //! - The rows that a free measurement changes are listed first, without a branch. The two that it
 //!   overwrites are not among them.
 //! - A gate on the frame works on the powers alone.
+//! - A reset and a correction lower a qudit by one pass over the Z powers on it, and by none where the
+//!   level is 0.
 //! - Half of the pairings, made of powers from −15 to 15, so that their sums fit 16 bits with a
 //!   sign, two at a time, and tested for divisibility without a division.
 //! - Operations and choices are tested without a branch, several at a time. If one is bad, they are
@@ -24,6 +26,7 @@
 mod even;
 mod specified;
 
+use cagvost::book::MAX_OPERATIONS;
 use std::array;
 
 pub use even::Even;
@@ -446,6 +449,20 @@ fn apply_error(rows: &mut [u8], n: usize, error: &[u8], m: &Modulo) {
 
 // ---- Measurements
 
+/// X to the minus so many on every row. It adds to every kind of phase alike.
+#[inline(never)]
+fn lower(rows: &mut [u8], n: usize, (q, by): (usize, u8), m: &Modulo) {
+    if by == 0 {
+        return;
+    }
+    let (w, z, last) = (2 * n + 1, n + q, 2 * n);
+    assert!(z < w && last < w);
+    let gained = m.times(by);
+    for row in rows.chunks_exact_mut(w) {
+        row[last] = m.rest(row[last].wrapping_add(look_up(gained, row[z])));
+    }
+}
+
 /// The stabilizer by which a free measurement multiplies.
 #[repr(align(64))]
 pub struct Pivot {
@@ -557,6 +574,8 @@ pub struct Book<'a> {
     pub operations: &'a [u8],
     pub errors: &'a [u8],
     pub choices: &'a [u8],
+    /// How many results there are. Of the choices, some may be resets'.
+    pub measurements: usize,
 }
 
 /// Refusals 2 and 3.
@@ -582,7 +601,7 @@ pub fn read(book: &[u8]) -> Result<Book<'_>, Returned> {
     let (d, n) = (book[1], usize::from(book[2]));
     check_sizes(d.into(), n)?;
     let bodies = bodies(book)?;
-    check_bodies(d, n, bodies)?;
+    let measurements = check_bodies(d, n, bodies)?;
     let [operations, errors, choices] = bodies;
     Ok(Book {
         d,
@@ -590,6 +609,7 @@ pub fn read(book: &[u8]) -> Result<Book<'_>, Returned> {
         operations,
         errors,
         choices,
+        measurements,
     })
 }
 
@@ -615,6 +635,7 @@ fn bodies(book: &[u8]) -> Result<[&[u8]; 3], Returned> {
     Ok([0, 1, 2].map(|i| &book[ends[i]..ends[i + 1]]))
 }
 
+/// Whether an entry is a gate or a measurement.
 fn is_operation(d: u32, n: u32, entry: &[u8]) -> bool {
     let entry = code_first(entry);
     let [code, q, t, k] = [0, 8, 16, 24].map(|by| (entry >> by) & 255);
@@ -631,31 +652,64 @@ fn is_operation(d: u32, n: u32, entry: &[u8]) -> bool {
     (code < 7) & (q < n) & second & (k < end) & (k != excluded)
 }
 
+/// Whether an entry is a reset, or a correction by one of so many results.
+fn is_adjustment(n: usize, measured: usize, entry: &[u8]) -> bool {
+    let is_placed = usize::from(entry[1]) < n;
+    match entry[0] {
+        7 => is_placed && entry[2..] == [0, 0],
+        8 => is_placed && two_bytes(entry, 2) < measured,
+        _ => false,
+    }
+}
+
 /// The bytes of an operation as one number, the code in the lowest bits.
 fn code_first(entry: &[u8]) -> u32 {
     u32::from_le_bytes([entry[0], entry[1], entry[2], entry[3]])
 }
 
-/// Refusals 5 to 7.
+/// Refusals 5 to 7, or the number of measurements.
 fn check_bodies(
     d: u8,
     n: usize,
     [operations, errors, choices]: [&[u8]; 3],
-) -> Result<(), Returned> {
-    check_operations(d, n, operations)?;
+) -> Result<usize, Returned> {
+    let is_adjusted = check_operations(d, n, operations)?;
     check_errors(d, n, operations.len() / 4, errors)?;
-    check_choices(d, operations, choices)
+    let measurements = count::<MEASURE>(operations);
+    if !is_adjusted {
+        check_choices(d, measurements, choices)?;
+    } else {
+        check_choices(d, count::<MEASURE_OR_RESET>(operations), choices)?;
+    }
+    Ok(measurements)
 }
 
-fn check_operations(d: u8, n: usize, body: &[u8]) -> Result<(), Returned> {
+/// The bits by which a code is told to be 110, and those by which it is told to be 110 or 111.
+const MEASURE: u32 = 0b1111_1111;
+const MEASURE_OR_RESET: u32 = 0b1111_1110;
+
+/// How many operations have a code with 110 in these bits.
+fn count<const BITS: u32>(operations: &[u8]) -> usize {
+    let entries = operations.chunks_exact(4);
+    let counted = entries.map(|entry| u32::from(code_first(entry) & BITS == 0b110));
+    counted.sum::<u32>() as usize
+}
+
+/// Whether there are resets or corrections. If there are not, one pass without a branch is enough.
+fn check_operations(d: u8, n: usize, body: &[u8]) -> Result<bool, Returned> {
     let is_good = |entry: &[u8]| is_operation(d.into(), n as u32, entry);
     let mut entries = body.chunks_exact(4);
     let all = entries.clone();
     if all.fold(true, |good, entry| good & is_good(entry)) {
-        return Ok(());
+        return Ok(false);
     }
-    let first = entries.position(|entry| !is_good(entry));
-    Err((5, first.expect("one is bad")))
+    let mut measured = 0;
+    let first = entries.position(|entry| {
+        let is_bad = !is_good(entry) && !is_adjustment(n, measured, entry);
+        measured += usize::from(entry[0] == 6);
+        is_bad
+    });
+    first.map_or(Ok(true), |index| Err((5, index)))
 }
 
 fn check_errors(d: u8, n: usize, operations: usize, body: &[u8]) -> Result<(), Returned> {
@@ -671,12 +725,9 @@ fn check_errors(d: u8, n: usize, operations: usize, body: &[u8]) -> Result<(), R
     Ok(())
 }
 
-fn check_choices(d: u8, operations: &[u8], choices: &[u8]) -> Result<(), Returned> {
-    let entries = operations.chunks_exact(4);
-    let measures = entries.map(|entry| u32::from(code_first(entry) & 255 == 6));
-    let measurements = measures.sum::<u32>() as usize;
-    if choices.len() != measurements {
-        return Err((7, choices.len().min(measurements)));
+fn check_choices(d: u8, taken: usize, choices: &[u8]) -> Result<(), Returned> {
+    if choices.len() != taken {
+        return Err((7, choices.len().min(taken)));
     }
     if choices.iter().fold(0, |most, &x| x.max(most)) < d {
         return Ok(());
@@ -780,11 +831,11 @@ pub fn mirror(book: &[u8], out: &mut [u8]) -> Returned {
         Ok(book) => book,
         Err(returned) => return returned,
     };
-    // A good book has a choice for each measurement.
+    // A good book has a choice for each measurement and each reset, and no correction without one.
     if !book.choices.is_empty() {
         let mut entries = book.operations.chunks_exact(4);
-        let first = entries.position(|entry| entry[0] == 6);
-        return (12, first.expect("a measurement"));
+        let first = entries.position(|entry| entry[0] > 5);
+        return (12, first.expect("a measurement or a reset"));
     }
     let length = 22 + book.operations.len();
     let Some(out) = out.get_mut(..length) else {
@@ -876,7 +927,7 @@ fn start<'a, 'b>(
 ) -> Result<(Book<'a>, &'b mut [u8]), Returned> {
     let book = read(book)?;
     let tableau = tableau.get_mut(..tableau_len(book.n)).ok_or((8, 0))?;
-    if results.len() < 2 * book.choices.len() {
+    if results.len() < 2 * book.measurements {
         return Err((8, 0));
     }
     Ok((book, tableau))
@@ -917,7 +968,7 @@ fn apply_errors<P: Phases>(
     modulo: &Modulo,
 ) -> usize {
     let (n, mut errors, mut done) = (book.n, book.errors, 0);
-    let mut pivot = Pivot::new();
+    let (mut choices, mut pivot) = (book.choices.iter(), Pivot::new());
     for (k, entry) in book.operations.chunks_exact(4).enumerate() {
         while let Some(error) = take_error(&mut errors, k) {
             apply_error(rows, n, error, modulo);
@@ -926,19 +977,33 @@ fn apply_errors<P: Phases>(
             power::<P>(rows, n, entry, modulo);
             continue;
         }
-        if entry[0] != 6 {
+        if entry[0] < 6 {
             gate::<P>(rows, n, entry, modulo);
             continue;
         }
-        let measured = (entry[1].into(), book.choices[done]);
+        let q = usize::from(entry[1]);
+        if entry[0] == 8 {
+            lower(rows, n, (q, results[2 * two_bytes(entry, 2)]), modulo);
+            continue;
+        }
+        let measured = (q, next(&mut choices));
         let result = measure::<P>(rows, n, measured, modulo, &mut pivot);
-        results[2 * done..2 * done + 2].copy_from_slice(&result);
-        done += 1;
+        if entry[0] == 6 {
+            results[2 * done..2 * done + 2].copy_from_slice(&result);
+            done += 1;
+        } else {
+            lower(rows, n, (q, result[0]), modulo);
+        }
     }
     for error in errors.chunks_exact(5) {
         apply_error(rows, n, error, modulo);
     }
     done
+}
+
+/// The next choice of a good book.
+fn next<'a>(choices: &mut impl Iterator<Item = &'a u8>) -> u8 {
+    *choices.next().expect("as many choices as are taken")
 }
 
 /// The frame run: errors change the frame alone. The third number is the verdict.
@@ -979,32 +1044,62 @@ fn carry_along<P: Phases>(
     modulo: &Modulo,
 ) -> usize {
     let (n, mut errors, mut done) = (book.n, book.errors, 0);
-    let mut pivot = Pivot::new();
+    let (mut choices, mut pivot) = (book.choices.iter(), Pivot::new());
+    let mut shifts = [0; MAX_OPERATIONS];
     for (k, entry) in book.operations.chunks_exact(4).enumerate() {
         while let Some(error) = take_error(&mut errors, k) {
             carry(frame, n, error, modulo.d);
         }
-        if is_power(entry) {
-            power::<P>(rows, n, entry, modulo);
-            power_frame(frame, n, entry, modulo);
-            continue;
-        }
-        if entry[0] != 6 {
-            gate::<P>(rows, n, entry, modulo);
-            gate_frame(frame, n, entry, modulo);
+        if entry[0] < 6 {
+            gate_both::<P>((rows, frame), n, entry, modulo);
             continue;
         }
         let q = usize::from(entry[1]);
-        let measured = (q, book.choices[done]);
+        if entry[0] == 8 {
+            let m = two_bytes(entry, 2);
+            correct((rows, frame), n, (q, results[2 * m], shifts[m]), modulo);
+            continue;
+        }
+        let measured = (q, next(&mut choices));
         let [clean, mark] = measure::<P>(rows, n, measured, modulo, &mut pivot);
-        let reported = add(modulo.d, clean, frame[q]);
-        results[2 * done..2 * done + 2].copy_from_slice(&[reported, mark]);
-        done += 1;
+        if entry[0] == 6 {
+            let reported = add(modulo.d, clean, frame[q]);
+            results[2 * done..2 * done + 2].copy_from_slice(&[reported, mark]);
+            shifts[done] = frame[q];
+            done += 1;
+        } else {
+            lower(rows, n, (q, clean), modulo);
+            frame[q] = 0;
+        }
     }
     for error in errors.chunks_exact(5) {
         carry(frame, n, error, modulo.d);
     }
     done
+}
+
+/// A gate or its power on the rows and on the frame.
+#[inline(always)]
+fn gate_both<P: Phases>((rows, frame): (&mut [u8], &mut [u8]), n: usize, entry: &[u8], m: &Modulo) {
+    if is_power(entry) {
+        power::<P>(rows, n, entry, m);
+        power_frame(frame, n, entry, m);
+    } else {
+        gate::<P>(rows, n, entry, m);
+        gate_frame(frame, n, entry, m);
+    }
+}
+
+/// A correction in a frame run: of the rows by the clean result, of the frame by the shift.
+#[inline(never)]
+fn correct(
+    (rows, frame): (&mut [u8], &mut [u8]),
+    n: usize,
+    (t, reported, shift): (usize, u8, u8),
+    m: &Modulo,
+) {
+    lower(rows, n, (t, m.rest(reported.wrapping_sub(shift))), m);
+    frame[t] = m.rest(frame[t].wrapping_sub(shift));
 }
 
 /// The error joins the frame.
