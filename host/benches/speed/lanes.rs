@@ -166,6 +166,17 @@ fn power(x: &mut [Line; QUDITS], z: &mut [Line; QUDITS], entry: &[u8], d: u8) {
     }
 }
 
+/// A reset or a correction on all lanes.
+#[inline(never)]
+fn adjust(x: &mut [Line; QUDITS], kept: &mut Kept, entry: &[u8], d: u8) {
+    let target = &mut x[usize::from(entry[1]) % QUDITS];
+    if entry[0] == 7 {
+        target.fill(0);
+    } else if let Some(shifts) = kept.line(two_bytes(entry, 2)) {
+        lose(d, target, shifts);
+    }
+}
+
 // ---- A block of shots
 
 /// What all shots share: the run without errors, and the bytes that each shot fills.
@@ -176,7 +187,6 @@ struct Circuit<'a> {
     rows: Vec<u8>,
     results: Vec<u8>,
     modulo: Modulo,
-    kept: Kept,
 }
 
 impl Circuit<'_> {
@@ -185,11 +195,11 @@ impl Circuit<'_> {
     }
 }
 
-/// Which shifts are kept for corrections.
+/// The shifts that corrections take out, for the block that is run.
 struct Kept {
     /// Where those of each measurement are kept, or none if no correction names it.
     places: Vec<u16>,
-    count: usize,
+    lines: Vec<Line>,
 }
 
 impl Kept {
@@ -203,8 +213,14 @@ impl Kept {
                 count += 1;
             }
         }
-        let count = count.into();
-        Kept { places, count }
+        let lines = vec![[0; LANES]; count.into()];
+        Kept { places, lines }
+    }
+
+    /// The line of a measurement, if it is named.
+    fn line(&mut self, measurement: usize) -> Option<&mut Line> {
+        let place = self.places[measurement];
+        self.lines.get_mut(usize::from(place))
     }
 }
 
@@ -222,12 +238,10 @@ struct Block {
     used: usize,
     tile: [u8; TILE * LANES],
     spare: [u8; TILE * LANES],
-    /// The shifts that corrections take out.
-    kept: Vec<Line>,
 }
 
 impl Block {
-    fn new(kept: &Kept) -> Box<Block> {
+    fn new() -> Box<Block> {
         Box::new(Block {
             x: [[0; LANES]; QUDITS],
             z: [[0; LANES]; QUDITS],
@@ -239,7 +253,6 @@ impl Block {
             used: 0,
             tile: [0; TILE * LANES],
             spare: [0; TILE * LANES],
-            kept: vec![[0; LANES]; kept.count],
         })
     }
 
@@ -287,8 +300,8 @@ impl Block {
     }
 
     /// Runs the block and empties it. How many of its shots were shifted.
-    fn run(&mut self, circuit: &Circuit, out: &mut [u8]) -> usize {
-        self.carry(circuit, out);
+    fn run(&mut self, circuit: &Circuit, kept: &mut Kept, out: &mut [u8]) -> usize {
+        self.carry(circuit, kept, out);
         let shifted = self.write_verdicts(circuit, out);
         self.x.as_flattened_mut().fill(0);
         self.z.as_flattened_mut().fill(0);
@@ -298,7 +311,7 @@ impl Block {
     }
 
     /// All operations and errors. The results are written.
-    fn carry(&mut self, circuit: &Circuit, out: &mut [u8]) {
+    fn carry(&mut self, circuit: &Circuit, kept: &mut Kept, out: &mut [u8]) {
         let (d, tray) = (circuit.modulo.d, circuit.tray);
         let (mut done, mut held) = (0, 0);
         for (k, entry) in circuit.book.operations.chunks_exact(4).enumerate() {
@@ -314,7 +327,7 @@ impl Block {
                 continue;
             }
             if entry[0] > 6 {
-                self.adjust(entry, circuit);
+                adjust(&mut self.x, kept, entry, d);
                 continue;
             }
             let line = &mut self.tile[held * LANES..(held + 1) * LANES];
@@ -322,7 +335,7 @@ impl Block {
             for (result, &x) in line.iter_mut().zip(frame) {
                 *result = add(d, x, circuit.results[2 * done]);
             }
-            if let Some(kept) = self.kept.get_mut(usize::from(circuit.kept.places[done])) {
+            if let Some(kept) = kept.line(done) {
                 kept.copy_from_slice(frame);
             }
             (done, held) = (done + 1, held + 1);
@@ -332,18 +345,6 @@ impl Block {
             }
         }
         self.apply_errors(tray, circuit.book.operations.len() / 4, d);
-    }
-
-    /// A reset or a correction on all lanes.
-    #[inline(never)]
-    fn adjust(&mut self, entry: &[u8], circuit: &Circuit) {
-        let target = &mut self.x[usize::from(entry[1]) % QUDITS];
-        if entry[0] == 7 {
-            target.fill(0);
-            return;
-        }
-        let place = circuit.kept.places[two_bytes(entry, 2)];
-        lose(circuit.modulo.d, target, &self.kept[usize::from(place)]);
     }
 
     /// Writes the results of `held` measurements from `base` on.
@@ -425,7 +426,8 @@ pub fn tray(book: &[u8], tray: &[u8], tableau: &[u8], out: &mut [u8]) -> (usize,
         Ok(circuit) => circuit,
         Err((number, place)) => return (number, place, 0),
     };
-    let (width, mut block, mut shifted) = (circuit.width(), Block::new(&circuit.kept), 0);
+    let (width, mut block, mut shifted) = (circuit.width(), Block::new(), 0);
+    let mut kept = Kept::new(&circuit.book);
     for (i, [start, end]) in bodies(tray).enumerate() {
         if start == end {
             let row = &mut out[i * width..(i + 1) * width];
@@ -435,11 +437,11 @@ pub fn tray(book: &[u8], tray: &[u8], tableau: &[u8], out: &mut [u8]) -> (usize,
         }
         block.add(i, start, end, tray);
         if block.used == LANES {
-            shifted += block.run(&circuit, out);
+            shifted += block.run(&circuit, &mut kept, out);
         }
     }
     if block.used > 0 {
-        shifted += block.run(&circuit, out);
+        shifted += block.run(&circuit, &mut kept, out);
     }
     (0, two_bytes(tray, 0) - shifted, shifted)
 }
@@ -470,14 +472,12 @@ fn start<'a>(
     let (mut rows, modulo) = (tableau[ROWS..].to_vec(), Modulo::new(book.d));
     book.errors = &[];
     run_rows::<Specified>(&book, &mut rows, &mut results, &modulo);
-    let kept = Kept::new(&book);
     Ok(Circuit {
         book,
         tray,
         rows,
         results,
         modulo,
-        kept,
     })
 }
 
