@@ -16,7 +16,7 @@ use Rattle.row.specs.Row.{xOf}
 use Rattle.operation.specs.declared.Operation.{Operation}
 use Rattle.operation.specs.declared.Operation.the-variants.{Measure, Correct}
 use Rattle.operation.specs.declared.WeylError.{WeylError}
-use Rattle.operation.specs.Gate.{withX}
+use Rattle.operation.specs.Gate.{withX, lessX}
 use Rattle.circuit.specs.Circuit.{opAt, measures, kind, tallyKind, measured}
 use Rattle.book.specs.Decoded.{operationsOf}
 use Rattle.book.proofs.Lists.{op-count}
@@ -25,7 +25,7 @@ use Rattle.runs.specs.Raised.{frameBefore, carriedFrame, resultShifts}
 use Rattle.runs.proofs.Shifts.{shift-of}
 use Rattle.runs.proofs.Results.{measured-more, measured-before}
 use Rattle.run_laws.proofs.Corrections.{without-shift}
-use Rattle.lanes.specs.Lanes.{lessX, lane, Lanes}
+use Rattle.lanes.specs.Lanes.{lane, Lanes}
 use Rattle.lanes.proofs.Lanes.{lane-at}
 use Rattle.tile.specs.Tile.{TileRoom, ShotsRoom, ResultRow, shotAt, Flushed}
 use Rattle.calendar.specs.Calendar.{AllErrorsApplied, Queued}

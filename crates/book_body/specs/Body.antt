@@ -31,7 +31,8 @@ unfoldable pub choiceTakers : List ℕ → ℕ → ℕ
 choiceTakers ops zero = 0
 choiceTakers ops (suc k) = choiceTakers ops k + cond (eqb (getD ops (4 * k) 0) 6 || eqb (getD ops (4 * k) 0) 7) 1 0
 
--- 5: first bad operation. A named measurement must come earlier in the book, else 5.
+-- 5: first bad operation. An entry that isn't one of the nine operations ends the reading there, and so does a correction whose named
+-- measurement does not come earlier in the book.
 abbrev pub isGood : (earlier : ℕ) → Decoded → Bool
 isGood earlier (Good op) = named earlier op
 isGood earlier Bad = false

@@ -1,5 +1,4 @@
 -- Worked cases; what other proofs use; the bytes of an operation; the test of an entry.
 pub mod Cases
-pub mod Steps
 pub mod Decoding
 pub mod Fitting

@@ -12,8 +12,6 @@ use Rattle.operation.specs.declared.WeylError.{WeylError}
 use Rattle.operation.specs.Operation.{allowed}
 use Rattle.book_entries.specs.declared.Decoded.{Decoded}
 use Rattle.book_entries.specs.declared.Decoded.the-variants.{Good, Bad}
-use Rattle.book_entries.specs.declared.Taken.{Taken}
-use Rattle.book_entries.specs.declared.Taken.the-variants.{Next, Refused}
 
 -- two bytes, low byte first
 abbrev pub word : List ℕ → ℕ → ℕ
@@ -79,11 +77,6 @@ coded b0 b1 b2 b3 =
 -- entry k of a body of operations
 abbrev pub operationAt : ℕ → ℕ → List ℕ → ℕ → Decoded
 operationAt d n ops k = decoded d n (getD ops (4 * k) 0) (getD ops (4 * k + 1) 0) (getD ops (4 * k + 2) 0) (getD ops (4 * k + 3) 0)
-
--- A step is its index together with its operation; an entry that isn't one of the nine ends the reading there, with refusal 5.
-abbrev pub stepOf : ℕ → Decoded → Taken
-stepOf k (Good op) = Next (record { index = k; operation = op })
-stepOf k Bad = Refused 5 k
 
 -- Errors: five bytes: place (two bytes, low first), qudit, p, s.
 unfoldable pub errorAt : List ℕ → ℕ → WeylError

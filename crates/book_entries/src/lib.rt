@@ -2,22 +2,15 @@
 ghost use mathlib.Core.Path.{_≡_};
 ghost use Prim.Native.Nat.{_+_, _/_, _<_};
 ghost use lib.ListN.{length};
-ghost use Rattle.book_entries.specs.Entry.{word, timesIn, decoded, coded, operationAt, stepOf, errorAt};
+ghost use Rattle.book_entries.specs.Entry.{word, timesIn, decoded, coded, operationAt, errorAt};
 ghost use Rattle.book_entries.specs.Fits.{secondFits, lastLimit, lastFits, plainFits, plainAt, fits};
 use operation::Operation;
-use operation::Step;
 use operation::WeylError;
 
 // An entry of operations, decoded.
 pub enum Decoded {
     Good(Operation),
     Bad,
-}
-
-// A step taken out of a body, or its refusal.
-pub enum Taken {
-    Next(Step),
-    Refused { number: u8, place: usize },
 }
 
 // Two bytes, low byte first.
@@ -165,23 +158,6 @@ pub fn operation_at(ops: &[u8], k: usize, d: u8, n: usize) -> Decoded
         casts::byte_as_usize(ops[at + 2]),
         ops[at + 3],
     )
-}
-
-// Step k: its index together with its operation. An entry that is none ends the reading there, with refusal 5.
-pub fn step_at(ops: &[u8], k: usize, d: u8, n: usize) -> Taken
-    requires { ⌜ k < length (now ops) / 4 ⌝ }
-    ensures { λ r. ⌜ r ≡ stepOf k (operationAt d n (now (ops .entry)) k) ⌝ }
-{
-    let Decoded::Good(operation) = operation_at(ops, k, d, n) else {
-        return Taken::Refused {
-            number: 5,
-            place: k,
-        };
-    };
-    Taken::Next(Step {
-        index: k,
-        operation,
-    })
 }
 
 // Entry k of a body of errors.

@@ -10,7 +10,8 @@ use borrow.Author.Tests.{lt-ltb, le-ltb}
 use lib.ListN.{length}
 use Rattle.modular.specs.Modular.{neg}
 use Rattle.operation.proofs.Stores.{powers-store}
-use Rattle.lanes.specs.Lanes.{lessX, lane, Lanes, LaneFrame, Alone}
+use Rattle.operation.specs.Gate.{lessX}
+use Rattle.lanes.specs.Lanes.{lane, Lanes, LaneFrame, Alone}
 use Rattle.lanes.proofs.Lanes.{alone-lanes}
 use Rattle.correction.specs.Correction.{heldIn, writtenIn, reportedIn, Corrected}
 

@@ -6,7 +6,8 @@ use Prim.Native.Nat.{ℕ, _+_, _-_, _*_, _%_, _<_}
 use lib.Dec.{ltb}
 use lib.ListN.{length, getD}
 use Rattle.modular.specs.Modular.{neg}
-use Rattle.lanes.specs.Lanes.{lessX, lane}
+use Rattle.operation.specs.Gate.{lessX}
+use Rattle.lanes.specs.Lanes.{lane}
 use Rattle.tile.specs.Tile.{shotAt}
 
 -- the result of lane l in row y of the tile, and that of measurement m in the bytes of its shot

@@ -15,7 +15,6 @@ ghost use Rattle.runs.specs.Reached.{Reached, AtStep};
 ghost use Rattle.runs.specs.Direct.{stateOf, errorsOnRows, directOperation, directStep};
 ghost use Rattle.measure_step.specs.Supplied.{RunTables, Supplied};
 ghost use Rattle.direct_step.specs.Inputs.{Inputs};
-use book_entries::Taken;
 use operation::Operation;
 use operation::Step;
 use runs::Position;
@@ -130,10 +129,7 @@ pub fn operate(
         (opAt (operationsOf d n (now (ops .entry))) k))
         × Valid d n (now (t .exit)) ⌝ }
 {
-    let Taken::Next(step) = book_entries::step_at(ops, k, d, n) else {
-        // never: the reader let every entry pass
-        return;
-    };
+    let step = operation_codes::step_of(ops, k, d, n);
     perform(t, results, choices, step, c, j, tables, d, n);
 }
 

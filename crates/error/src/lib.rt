@@ -55,7 +55,35 @@ pub fn error_rows(t: &mut [u8], e: WeylError, tables: &[u8], d: u8, n: usize)
     }
 }
 
-// X to the minus r on qudit q, on every row.
+// X to the minus r on qudit q adds r·b to a row's phase.
+fn minus_x_row(v: &mut [u8], q: usize, r: u8, tables: &[u8], d: u8, n: usize)
+    requires { ⌜ (q < n)
+        × (r < d)
+        × Row d n (now v)
+        × Tables d (now tables) ⌝ }
+    ensures { λ _. ⌜ now (v .exit) ≡ errorRow d n (minusX d q r) (now (v .entry)) ⌝ }
+{
+    let last = 2 * n;
+    let z = tables::product(tables, d, r, v[n + q]);
+    v[last] = tables::sum(tables, d, v[last], z);
+}
+
+// The same on row i of a tableau.
+fn minus_x_at(t: &mut [u8], i: usize, q: usize, r: u8, tables: &[u8], d: u8, n: usize)
+    requires { ⌜ (i * (2 * n + 1) + (2 * n + 1) ≤ length (now t))
+        × (q < n)
+        × (r < d)
+        × Row d n (row n (now t) i)
+        × Tables d (now tables) ⌝ }
+    ensures { λ _. ⌜ now (t .exit) ≡ put (i * (2 * n + 1)) (2 * n + 1) (errorRow d n (minusX d q r) (row n (now (t .entry)) i)) (now (t .entry)) ⌝ }
+{
+    let w = 2 * n + 1;
+    let s = i * w;
+    let f = s + w;
+    minus_x_row(&mut t[s..f], q, r, tables, d, n);
+}
+
+// X to the minus r on qudit q, on every row: an error with one product a row in place of two.
 pub fn minus_x_rows(t: &mut [u8], q: usize, r: u8, tables: &[u8], d: u8, n: usize)
     requires { ⌜ (n ≤ 64)
         × (q < n)
@@ -64,11 +92,10 @@ pub fn minus_x_rows(t: &mut [u8], q: usize, r: u8, tables: &[u8], d: u8, n: usiz
         × Tableau d n (now t) ⌝ }
     ensures { λ _. ⌜ now (t .exit) ≡ errorRows d n (minusX d q r) (now (t .entry)) ⌝ }
 {
-    let e = WeylError {
-        place: 0,
-        qudit: q,
-        p: modular::negative(d, r),
-        s: 0,
-    };
-    error_rows(t, e, tables, d, n);
+    let rows = 2 * n;
+    let mut i = 0;
+    while i < rows {
+        minus_x_at(t, i, q, r, tables, d, n);
+        i += 1;
+    }
 }

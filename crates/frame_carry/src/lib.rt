@@ -118,13 +118,10 @@ fn advance(
 {
     let from = at.entry;
     let entry = apply_errors(frame, errors, from, k, d, n);
-    let operation = operation_codes::operation_of(ops, k, d, n);
+    let step = operation_codes::step_of(ops, k, d, n);
     let j = at.measurements;
-    let step = Step {
-        index: k,
-        operation,
-    };
     perform(frame, results, shifts, step, j, d, m, n);
+    let operation = step.operation;
     let measurements = j + circuit::tally(operation);
     // No choice is taken here, and none is counted.
     let choices = at.choices;

@@ -3,9 +3,9 @@
 ghost use Prim.Native.Nat.{_<_};
 ghost use Rattle.modular.specs.Modular.{Reciprocal};
 ghost use Rattle.operation.specs.declared.Operation.the-variants.{Fourier, PhaseGate, Sum, Cz, Swap, Multiplier};
-ghost use Rattle.operation.specs.Gate.{withX, gatePowers};
+ghost use Rattle.operation.specs.Gate.{withX, lessX, gatePowers};
 ghost use Rattle.operation.specs.Error.{errorFrame};
-ghost use Rattle.lanes.specs.Lanes.{lessX, Lanes, LaneFrame, InverseOf, Each, Alone};
+ghost use Rattle.lanes.specs.Lanes.{Lanes, LaneFrame, InverseOf, Each, Alone};
 use operation::WeylError;
 
 fn fourier_lane(v: &mut [u8], q: usize, k: u8, l: usize, d: u8, n: usize)

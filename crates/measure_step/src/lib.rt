@@ -26,7 +26,15 @@ pub struct Outcome {
 }
 
 // Measures qudit q: a free measurement takes choice c.
-fn measured(t: &mut [u8], choices: &[u8], c: usize, q: usize, tables: &[u8], d: u8, n: usize) -> Outcome
+fn measured(
+    t: &mut [u8],
+    choices: &[u8],
+    c: usize,
+    q: usize,
+    tables: &[u8],
+    d: u8,
+    n: usize,
+) -> Outcome
     requires { ⌜ RunTables d n (now tables)
         × (q < n)
         × Supplied d c 1 (now choices)

@@ -21,6 +21,10 @@ withZ n q b v = set v (n + q) b
 abbrev pub withPhase : ℕ → ℕ → List ℕ → List ℕ
 withPhase n r v = set v (2 * n) r
 
+-- v whose X power of qudit q has lost s
+abbrev pub lessX : (d q s : ℕ) → List ℕ → List ℕ
+lessX d q s v = withX q ((xOf v q + neg d s) % d) v
+
 -- Fourier once, twice and three times: (a,b) becomes (−b,a), (−a,−b) and (b,−a).
 abbrev pub fourierX : ℕ → ℕ → ℕ → ℕ → ℕ
 fourierX d k a b = cond (eqb k 1) (neg d b) (cond (eqb k 2) (neg d a) b)

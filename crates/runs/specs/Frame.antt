@@ -11,7 +11,7 @@ use Rattle.search.specs.Search.{all}
 use Rattle.tableau.specs.Tableau.{row, onRows, every}
 use Rattle.operation.specs.declared.Operation.{Operation}
 use Rattle.operation.specs.declared.WeylError.{WeylError}
-use Rattle.operation.specs.Gate.{withX, withPhase, gateRows, gateFrame}
+use Rattle.operation.specs.Gate.{withX, lessX, withPhase, gateRows, gateFrame}
 use Rattle.operation.specs.Error.{errorRows, errorFrame, minusX}
 use Rattle.circuit.specs.Circuit.{opAt, errAt, Kind, gate, measures, resets, corrects, kind, measured, chosen}
 use Rattle.measurement.specs.declared.Look.{Look}
@@ -42,7 +42,7 @@ resetFrame q F = withX q 0 F
 
 -- At a correction the target's X power loses the shift which that measurement had.
 abbrev pub correctFrame : (d t shift : ℕ) → List ℕ → List ℕ
-correctFrame d t shift F = withX t ((xOf F t + neg d shift) % d) F
+correctFrame d t shift F = lessX d t shift F
 
 -- the clean result of measurement m: the reported one without its shift
 abbrev pub cleanResult : (d : ℕ) (results shifts : List ℕ) (m : ℕ) → ℕ

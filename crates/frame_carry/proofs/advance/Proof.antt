@@ -7,6 +7,7 @@ use denote.Ref.{now}
 use lib.ListN.{length}
 use borrow.Author.Needs.{needs}
 use Rattle.modular.proofs.Listed.{dimension}
+use Rattle.operation.specs.declared.Step.{Step}
 use Rattle.circuit.specs.Circuit.{tally}
 use Rattle.book.specs.Decoded.{operationsOf}
 use Rattle.book.proofs.Lists.{op-count}
@@ -20,8 +21,8 @@ apply-errors-requires c κs =
     let s = c .before .before .before .before .before .before in
     (dimension (s .args .d) (s .pre .1 .dimension) .high, s .pre .4, s .pre .2 .reached, s .pre .1 .errors-in-order)
 
-operation-of-requires : tie.Need-operation-of-requires
-operation-of-requires c κs =
+step-of-requires : tie.Need-step-of-requires
+step-of-requires c κs =
     let s = c .before .before .before .before .before .before .before .before .before in
     (s .pre .0, s .pre .1 .operations (s .args .k) (omega (arith, s .pre .0, op-count (s .args .d) (s .args .n) (now (s .args .ops)))))
 
@@ -31,7 +32,7 @@ perform-requires c κs =
     let a = s .args in
     let ops = operationsOf (a .d) (a .n) (now (a .ops)) in
     let in-list : a .k < length ops = omega (arith, s .pre .0, op-count (a .d) (a .n) (now (a .ops))) in
-    let e = c .before .before .before .operation-of .ensures in (
+    let e = ap (λ (step : Step). step .operation) (c .before .before .before .step-of .ensures) in (
       s .pre .1 .dimension,
       rw e (s .pre .1 .operations (a .k) in-list),
       rw (e, s .pre .2 .count) (s .pre .1 .names (a .k) in-list),
@@ -47,7 +48,7 @@ add-measurements c =
     let a = s .args in
     let ops = operationsOf (a .d) (a .n) (now (a .ops)) in
     let in-list : a .k < length ops = omega (arith, s .pre .0, op-count (a .d) (a .n) (now (a .ops))) in
-    omega (arith, c .tally .ensures .0, s .pre .2 .count, s .pre .1 .room, measured-in ops (a .k) in-list, ap tally (c .before .before .before .before .before .before .before .before .before .before .before .operation-of .ensures))
+    omega (arith, c .tally .ensures .0, s .pre .2 .count, s .pre .1 .room, measured-in ops (a .k) in-list, ap tally (ap (λ (step : Step). step .operation) (c .before .before .before .before .before .before .before .before .before .before .before .step-of .ensures)))
 
 returns : tie.Need-returns
 unfolding frameBefore
@@ -55,7 +56,7 @@ returns c =
     let s = c .before .before .before .before .before .before .before .before .before .before .before .before .before .before .before .before .before .before .before .before .before in
     let a = s .args in
     let ops = operationsOf (a .d) (a .n) (now (a .ops)) in
-    let e = c .before .before .before .before .before .before .before .before .before .before .before .operation-of .ensures in
+    let e = ap (λ (step : Step). step .operation) (c .before .before .before .before .before .before .before .before .before .before .before .step-of .ensures) in
     let struck = c .before .before .before .before .before .before .before .before .before .before .before .before .before .before .apply-errors .ensures in
     let after = c .before .before .before .before .before .before .before .perform .ensures in (
       rw (← e, ← struck .0) (after .0),
@@ -70,7 +71,7 @@ advance-spec =
     tie.close
     (tie.spec
     apply-errors-requires
-    operation-of-requires
+    step-of-requires
     perform-requires
     (λ c κs. search needs)
     add-measurements
