@@ -42,8 +42,9 @@ pub names :
     (badOperation 3 2 (6 ∷ 0 ∷ 0 ∷ 0 ∷ 8 ∷ 1 ∷ 0 ∷ 0 ∷ []) ≡ Nowhere) × (badOperation 3 2 (8 ∷ 1 ∷ 0 ∷ 0 ∷ 6 ∷ 0 ∷ 0 ∷ 0 ∷ []) ≡ At 0)
     × (badOperation 3 2 (6 ∷ 0 ∷ 0 ∷ 0 ∷ 8 ∷ 1 ∷ 1 ∷ 0 ∷ 6 ∷ 0 ∷ 0 ∷ 0 ∷ []) ≡ At 1)
     × (badOperation 3 2 (7 ∷ 0 ∷ 0 ∷ 0 ∷ 8 ∷ 1 ∷ 0 ∷ 0 ∷ []) ≡ At 1) × (badOperation 3 2 (6 ∷ 0 ∷ 0 ∷ 0 ∷ 8 ∷ 1 ∷ 0 ∷ 1 ∷ []) ≡ At 1)
+    × (badOperation 3 2 (6 ∷ 0 ∷ 0 ∷ 0 ∷ 6 ∷ 0 ∷ 0 ∷ 0 ∷ 8 ∷ 1 ∷ 1 ∷ 0 ∷ []) ≡ Nowhere)
 unfolding firstNot decoded measurements badOperation
-names = (refl, refl, refl, refl, refl)
+names = (refl, refl, refl, refl, refl, refl)
 
 -- A measurement and a reset take a choice each, a correction and a gate none; the measurement alone is counted as one.
 abbrev ops : List ℕ

@@ -1,5 +1,5 @@
 -- The three bodies: refusals 5, 6 and 7.
-use mathlib.Core.Bool.{Bool, true, false, cond, not, _&&_, _||_}
+use mathlib.Core.Bool.{Bool, true, false, cond, _&&_, _||_}
 use mathlib.Core.List.{List}
 use Prim.Native.Nat.{ℕ, zero, suc, _+_, _*_, _/_, _%_}
 use lib.Dec.{eqb, leb, ltb}
@@ -14,7 +14,7 @@ use Rattle.book_entries.specs.declared.Decoded.the-variants.{Good, Bad}
 use Rattle.book_body.specs.declared.Reading.{Reading}
 use Rattle.book_body.specs.declared.Reading.the-variants.{Accepted, Refused}
 use Rattle.search.specs.Search.{unless, all, firstNot}
-use Rattle.book_entries.specs.Entry.{word, operationAt, errorAt}
+use Rattle.book_entries.specs.Entry.{operationAt, errorAt}
 use Rattle.book_entries.specs.Fits.{plainAt}
 
 -- a number of bytes that is whole entries of `size` bytes, at most `most` of them
@@ -39,10 +39,6 @@ isGood earlier Bad = false
 
 abbrev pub goodOperation : ℕ → ℕ → List ℕ → ℕ → Bool
 goodOperation d n ops k = isGood (measurements ops k) (operationAt d n ops k)
-
--- the same of the naming alone, by an entry's bytes: a correction's bytes 2 and 3 are below the number of earlier measurements
-abbrev pub namesEarlier : List ℕ → ℕ → ℕ → Bool
-namesEarlier ops k earlier = not (eqb (getD ops (4 * k) 0) 8) || ltb (word ops (4 * k + 2)) earlier
 
 -- gates and measurements alone
 abbrev pub allPlain : ℕ → ℕ → List ℕ → Bool

@@ -2,8 +2,10 @@
 ghost use mathlib.Core.Path.{_≡_};
 ghost use Prim.Native.Nat.{_*_, _/_, _<_};
 ghost use lib.ListN.{length};
-ghost use Rattle.book_body.specs.Body.{lengthFits, namesEarlier, allPlain, badOperation, measurements, choiceTakers, errorFits, badError, smaller, badChoice, readBodies, answerOf, measuredOf, measuredBy};
+ghost use Rattle.operation.specs.Operation.{named};
+ghost use Rattle.book_body.specs.Body.{lengthFits, allPlain, badOperation, measurements, choiceTakers, errorFits, badError, smaller, badChoice, readBodies, answerOf, measuredOf, measuredBy};
 use book_entries::Decoded;
+use operation::Operation;
 use operation::WeylError;
 use search::Place;
 
@@ -32,12 +34,29 @@ pub fn length_fits(bytes: usize, size: usize, most: usize) -> bool
     (bytes % size == 0) & (bytes <= size * most)
 }
 
-// Whether the measurement that entry k names, if it is a correction, is one of the `earlier` ones.
-fn names_earlier(ops: &[u8], k: usize, earlier: usize) -> bool
-    requires { ⌜ k < length (now ops) / 4 ⌝ }
-    ensures { λ r. ⌜ r ≡ namesEarlier (now (ops .entry)) k earlier ⌝ }
+// Whether the measurement that an operation names, if it is a correction, is one of the `earlier` ones.
+fn names_earlier(operation: Operation, earlier: usize) -> bool
+    ensures { λ r. ⌜ r ≡ named earlier operation ⌝ }
 {
-    (ops[4 * k] != 8) | (book_entries::word(ops, 4 * k + 2) < earlier)
+    match operation {
+        Operation::Fourier { q: _, times: _ } => true,
+        Operation::PhaseGate { q: _, times: _ } => true,
+        Operation::Sum {
+            c: _,
+            t: _,
+            times: _,
+        } => true,
+        Operation::Cz {
+            c: _,
+            t: _,
+            times: _,
+        } => true,
+        Operation::Swap { c: _, t: _ } => true,
+        Operation::Multiplier { q: _, u: _ } => true,
+        Operation::Measure { q: _ } => true,
+        Operation::Reset { q: _ } => true,
+        Operation::Correct { t: _, m } => m < earlier,
+    }
 }
 
 // Whether every operation is a gate or a measurement: such a body has nothing bad, and its choices are counted by the measurements.
@@ -63,10 +82,10 @@ fn bad_among(ops: &[u8], d: u8, n: usize) -> Place
     let mut earlier = 0;
     let mut k = 0;
     while k < count {
-        let Decoded::Good(_) = book_entries::operation_at(ops, k, d, n) else {
+        let Decoded::Good(operation) = book_entries::operation_at(ops, k, d, n) else {
             return Place::At(k);
         };
-        if !names_earlier(ops, k, earlier) {
+        if !names_earlier(operation, earlier) {
             return Place::At(k);
         }
         earlier += search::one_if(ops[4 * k] == 6);

@@ -60,8 +60,8 @@ decoded d n b0 b1 b2 b3 =
     (cond (eqb b0 8) (ifAllowed d n (Correct b1 (b2 + 256 * b3)) (ltb b2 256))
     Bad))))))))
 
--- The operation of a code, whatever its operands: byte 1 is q or c, byte 2 is t, byte 3 says how often, or is u. Every code from 8 up is
--- the correction.
+-- The operation of a code, whatever its operands: byte 1 is q or c, byte 2 is t, byte 3 says how often, or is u; of a correction byte 1 is
+-- t, bytes 2 and 3 are m. Every code from 8 up is the correction.
 unfoldable pub coded : ℕ → ℕ → ℕ → ℕ → Operation
 coded b0 b1 b2 b3 =
     cond (eqb b0 0) (Fourier b1 (timesIn b3))

@@ -142,7 +142,8 @@ pub fn operate_gate(t: &mut [u8], ops: &[u8], k: usize, tables: &[u8], d: u8, n:
     ensures { λ _. ⌜ (now (t .exit) ≡ gateRows d n (opAt (operationsOf d n (now (ops .entry))) k) (now (t .entry)))
         × Valid d n (now (t .exit)) ⌝ }
 {
-    let operation = operation_codes::operation_of(ops, k, d, n);
+    let step = operation_codes::step_of(ops, k, d, n);
+    let operation = step.operation;
     gate::gate_rows(t, operation, tables, d, n);
 }
 

@@ -25,7 +25,7 @@ pub struct Outcome {
     pub mark: u8,
 }
 
-// Measures qudit q: a free measurement takes choice c.
+// Measures qudit q: a free measurement uses choice c.
 fn measured(
     t: &mut [u8],
     choices: &[u8],

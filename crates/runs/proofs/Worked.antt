@@ -18,7 +18,7 @@ use Rattle.operation.specs.Error.{errorRow, errorFrame}
 use Rattle.circuit.specs.Circuit.{measured, chosen}
 use Rattle.measurement.specs.Look.{pivotOf, combination, weighted, look}
 use Rattle.measurement.specs.Collapse.{collapseRow, collapse}
-use Rattle.runs.specs.Run.{stepsFrom, withResult}
+use Rattle.runs.specs.Run.{stepsFrom, withResult, resultOf}
 use Rattle.runs.specs.Direct.{errorsOnRows, directLook, resetRows, directKind, directErrors, directStep, directRun}
 use Rattle.runs.specs.Frame.{FrameEnd, noFrame, errorsOnFrame, shiftRow, verdictOf, frameLook, frameKind, frameErrors, frameStep, frameSteps, frameLeaves, frameRunFrom, frameRun}
 use Rattle.runs.specs.Raised.{carryBy, frameBefore, carried, raiseBy, choiceRaises, raised}
@@ -113,9 +113,42 @@ Cleared = Both 1 (Measure 0 ∷ Correct 0 0 ∷ Reset 0 ∷ [])
     (9 ∷ 9 ∷ 9 ∷ 9 ∷ [])
     (record { rows = 1 ∷ 0 ∷ 1 ∷ 0 ∷ 1 ∷ 0 ∷ []; results = 2 ∷ 0 ∷ 9 ∷ 9 ∷ []; shifts = 1 ∷ 0 ∷ []; frame = 0 ∷ 1 ∷ []; verdict = 0 })
 
-worked : Book × Ends × Free × Level0 × Corrected × Cleared
+-- After a reset a result has another number than its choice. Two corrections by two results, each named by its number: the second result
+-- goes to qudit 0, and the first to qudit 1.
+abbrev Named : Type 0
+Named = Both 2 (Fourier 0 1 ∷ Reset 0 ∷ Fourier 0 1 ∷ Measure 0 ∷ Fourier 1 1 ∷ Measure 1 ∷ Correct 0 1 ∷ Correct 1 0 ∷ [])
+    (record { place = 1; qudit = 0; p = 1; s = 1 }
+    ∷ record { place = 3; qudit = 0; p = 1; s = 0 }
+    ∷ record { place = 5; qudit = 1; p = 2; s = 1 }
+    ∷ record { place = 7; qudit = 0; p = 0; s = 1 }
+    ∷ [])
+    (0 ∷ 0 ∷ 2 ∷ [])
+    (1 ∷ 0 ∷ 1 ∷ [])
+    (1 ∷ 0 ∷ 0 ∷ 0 ∷ 0
+    ∷ 0 ∷ 1 ∷ 0 ∷ 0 ∷ 0
+    ∷ 0 ∷ 0 ∷ 1 ∷ 0 ∷ 0
+    ∷ 0 ∷ 0 ∷ 0 ∷ 1 ∷ 0 ∷ [])
+    (9 ∷ 9 ∷ 9 ∷ 9 ∷ [])
+    (record {
+      rows =
+          1 ∷ 0 ∷ 0 ∷ 0 ∷ 1
+          ∷ 0 ∷ 1 ∷ 0 ∷ 0 ∷ 1
+          ∷ 0 ∷ 0 ∷ 1 ∷ 0 ∷ 1
+          ∷ 0 ∷ 0 ∷ 0 ∷ 1 ∷ 2 ∷ [];
+      results = 0 ∷ 1 ∷ 1 ∷ 1 ∷ [];
+      shifts = 1 ∷ 1 ∷ 2 ∷ 1 ∷ [];
+      frame = 1 ∷ 2 ∷ 1 ∷ 1 ∷ [];
+      verdict = 1;
+    })
+
+-- A result that is read back is taken modulo d.
+read-back : resultOf 3 (0 ∷ 0 ∷ 7 ∷ 1 ∷ []) 1 ≡ 1
+read-back = refl
+
+worked : Book × Ends × Free × Level0 × Corrected × Cleared × Named
 unfolding stepsFrom withResult measured chosen frameRun frameRunFrom frameStep frameKind frameLook frameErrors frameSteps frameLeaves verdictOf shiftRow errorsOnFrame errorFrame raised choiceRaises raiseBy carried carryBy frameBefore withShifts filled directRun directStep directKind directLook resetRows directErrors errorsOnRows errorRow look pivotOf firstNot combination weighted all collapse collapseRow eachRow part put product power pairing scalar zWith rowOf tab dot gateRow gatePowers gatePhase inverse powerOf
 worked = (
+  record { framed = refl; carries = refl; raises = refl; after-errors = refl },
   record { framed = refl; carries = refl; raises = refl; after-errors = refl },
   record { framed = refl; carries = refl; raises = refl; after-errors = refl },
   record { framed = refl; carries = refl; raises = refl; after-errors = refl },

@@ -10,7 +10,7 @@ use Rattle.row.specs.Row.{tab, rowOf, dot, product, power, pairing}
 use Rattle.row.specs.Generators.{zWith}
 use Rattle.tableau.specs.Tableau.{part, put, eachRow}
 use Rattle.operation.specs.Gate.{gatePowers, gatePhase, gateRow}
-use Rattle.operation.specs.Error.{errorFrame}
+use Rattle.operation.specs.Error.{errorRow, errorFrame}
 use Rattle.row_laws.specs.Scalar.{scalar}
 use Rattle.validity.specs.Validity.{rowValid, valid}
 use Rattle.saved_tableau.specs.Saved.{selfValid, validFor}
@@ -22,6 +22,7 @@ use Rattle.book_body.specs.Body.{badOperation, measurements, choiceTakers, good
 use Rattle.book.specs.Book.{headerFits, entryFits, badContents, readBook, bodyOf}
 use Rattle.book.specs.Decoded.{operationsOf, errorsOf}
 use Rattle.runs.specs.Run.{stepsFrom, withResult}
+use Rattle.runs.specs.Direct.{resetRows}
 use Rattle.runs.specs.Frame.{errorsOnFrame, shiftRow, verdictOf, frameLook, frameKind, frameErrors, frameStep, frameSteps, frameLeaves, frameRunFrom, frameRun}
 use Rattle.tray.specs.Tray.{startOf, tableFits, badShot}
 use Rattle.shots.specs.Shots.{shotRow, cleanAmong, shiftedAmong, trayBuffersFit, trayByAnswer, trayBook}
@@ -55,6 +56,22 @@ pub returned :
     × (trayBook book (0 ∷ 0 ∷ []) t (sevens 1) ≡ record { number = 0; place = 0; shifted = 0; out = 7 ∷ [] })
 unfolding listed inverse powerOf all firstNot tab rowOf dot product power pairing zWith scalar part put eachRow gatePowers gatePhase gateRow errorFrame rowValid valid selfValid validFor pivotOf combination weighted look collapseRow collapse measured chosen decoded errorAt badOperation measurements choiceTakers goodError badError badChoice readBodies headerFits entryFits badContents readBook bodyOf operationsOf errorsOf stepsFrom withResult errorsOnFrame shiftRow verdictOf frameLook frameKind frameErrors frameStep frameSteps frameLeaves frameRunFrom frameRun startOf tableFits badShot shotRow cleanAmong shiftedAmong trayBuffersFit trayByAnswer trayBook
 returned = (refl, refl)
+
+-- Fourier, a measurement and a reset, with the choices 2 and 1; two shots, the second with an X error before all
+abbrev reset-book : List ℕ
+reset-book =
+    81 ∷ 3 ∷ 1 ∷ 3 ∷ 1 ∷ 0 ∷ 22 ∷ 0 ∷ 12 ∷ 0 ∷ 2 ∷ 0 ∷ 34 ∷ 0 ∷ 0 ∷ 0 ∷ 3 ∷ 0 ∷ 34 ∷ 0 ∷ 2 ∷ 0
+    ∷ 0 ∷ 0 ∷ 0 ∷ 0 ∷ 6 ∷ 0 ∷ 0 ∷ 0 ∷ 7 ∷ 0 ∷ 0 ∷ 0 ∷ 2 ∷ 1 ∷ []
+
+abbrev reset-tray : List ℕ
+reset-tray = 2 ∷ 0 ∷ 0 ∷ 0 ∷ 5 ∷ 0 ∷ 0 ∷ 0 ∷ 0 ∷ 1 ∷ 0 ∷ []
+
+-- A shot has one verdict byte and two bytes for each measurement, and none for a reset: three bytes here, six in all.
+pub reset-shots :
+    (trayBook reset-book reset-tray t (sevens 6) ≡ record { number = 0; place = 2; shifted = 0; out = 0 ∷ 2 ∷ 1 ∷ 0 ∷ 2 ∷ 1 ∷ [] })
+    × (trayBook reset-book reset-tray t (sevens 5) ≡ record { number = 8; place = 0; shifted = 0; out = sevens 5 })
+unfolding listed inverse powerOf all firstNot tab rowOf dot product power pairing zWith scalar part put eachRow gatePowers gatePhase gateRow errorFrame rowValid valid selfValid validFor pivotOf combination weighted look collapseRow collapse measured chosen decoded errorAt badOperation measurements choiceTakers goodError badError badChoice readBodies headerFits entryFits badContents readBook bodyOf operationsOf errorsOf stepsFrom withResult errorsOnFrame shiftRow verdictOf frameLook frameKind frameErrors frameStep frameSteps frameLeaves frameRunFrom frameRun resetRows errorRow startOf tableFits badShot shotRow cleanAmong shiftedAmong trayBuffersFit trayByAnswer trayBook
+reset-shots = (refl, refl)
 
 -- a tray that is refused leaves a buffer of so many sevens
 abbrev Refuses : (tray t : List ℕ) (size number place : ℕ) → Type 0

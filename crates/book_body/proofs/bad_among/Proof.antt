@@ -13,22 +13,21 @@ use borrow.Author.Needs.{needs}
 use borrow.Author.Tests.{not-true, not-false}
 use Rattle.search.specs.declared.Place.the-variants.{Nowhere}
 use Rattle.operation.specs.declared.Operation.{Operation}
+use Rattle.operation.specs.Operation.{named}
 use Rattle.book_entries.specs.declared.Decoded.{Decoded}
 use Rattle.book_entries.specs.declared.Decoded.the-variants.{Good}
 use Rattle.book_entries.specs.Entry.{operationAt}
-use Rattle.book_body.specs.Body.{measurements, isGood, namesEarlier, goodOperation, badOperation}
+use Rattle.book_body.specs.Body.{measurements, isGood, goodOperation, badOperation}
 use Rattle.search.specs.Search.{firstNot}
 use Rattle.search.proofs.Search.{none-yet, found}
-use Rattle.book_body.proofs.Naming.{names-earlier}
 use Rattle.book_body.proofs.bad_among.Statement.{statement}
 use Rattle.book_body.proofs.bad_among.Tie as tie
 
 -- an entry that is an operation is good if it names an earlier measurement
 good : (d n : ℕ) (ops : List ℕ) (k earlier : ℕ) (op : Operation) {x : Decoded} {b : Bool} → x ≡ operationAt d n ops k → x ≡ Good op → earlier ≡ measurements ops k
-    → b ≡ namesEarlier ops k earlier → goodOperation d n ops k ≡ b
+    → b ≡ named earlier op → goodOperation d n ops k ≡ b
 good d n ops k earlier op r e m h =
-    let own : operationAt d n ops k ≡ Good op = sym r ∙ e in
-    ap (isGood (measurements ops k)) own ∙ sym (names-earlier d n ops k (measurements ops k) op own) ∙ ap (namesEarlier ops k) (sym m) ∙ sym h
+    ap (isGood (measurements ops k)) (sym r ∙ e) ∙ ap (λ (z : ℕ). named z op) (sym m) ∙ sym h
 
 abbrev Inv-loop : tie.InvT-loop
 Inv-loop ops d n count earlier₀ k₀ earlier k = (k ≤ count) × (earlier ≤ k) × (earlier ≡ measurements ops k) × (firstNot (goodOperation d n ops) k ≡ Nowhere)
@@ -45,17 +44,14 @@ operation-at-requires c κs = omega arith
 
 returns : tie.Need-returns Inv-loop μ-loop
 unfolding badOperation
-returns c =
-    found _ _ _ (c .before .before .before .loop-test .taken) (c .before .before .before .before .loop .inv .3)
-    (rw (← c .before .before .operation-at .ensures, c .enum-told2 .given .1))
+returns c = found _ _ _ (c .before .before .before .loop-test .taken) (c .before .before .before .before .loop .inv .3) (rw (← c .before .before .operation-at .ensures, c .enum-told .given .1))
 
 returns-2 : tie.Need-returns-2 Inv-loop μ-loop
 unfolding badOperation
 returns-2 c =
-    let at = c .before .before .before .before .before .before in
-    found _ _ _ (c .before .before .before .before .before .loop-test .taken) (at .loop .inv .3)
-    (good _ _ _ _ _ _ (c .before .before .before .before .operation-at .ensures) (c .before .before .enum-told .given .1) (at .loop .inv .2) (c .before .names-earlier .ensures)
-    ∙ not-true _ (c .if1 .taken))
+    let at = c .before .before .before .before .before .before .before in
+    found _ _ _ (c .before .before .before .before .before .before .loop-test .taken) (at .loop .inv .3)
+    (good _ _ _ _ _ _ (c .before .before .before .before .before .operation-at .ensures) (c .before .before .before .operation .given .1) (at .loop .inv .2) (c .before .names-earlier .ensures) ∙ not-true _ (c .if1 .taken))
 
 mul-one-if : tie.Need-mul-one-if Inv-loop μ-loop
 mul-one-if c = omega arith
@@ -75,13 +71,12 @@ loop-less c = omega arith
 loop-again : tie.Need-loop-again Inv-loop μ-loop
 unfolding measurements
 loop-again c =
-    let at = c .before .before .before .before .before .before .before .before in (
+    let at = c .before .before .before .before .before .before .before .before .before in (
       omega arith,
       omega arith,
       rw (add-one (at .loop .k)) (cc),
       none-yet _ _ (at .loop .inv .3)
-          (good _ _ (now (at .before .before .args .ops)) (at .loop .k) _ _ (c .before .before .before .before .before .before .operation-at .ensures) (c .before .before .before .before .enum-told .given .1) (at .loop .inv .2)
-          (c .before .before .before .names-earlier .ensures)
+          (good _ _ (now (at .before .before .args .ops)) (at .loop .k) _ _ (c .before .before .before .before .before .before .before .operation-at .ensures) (c .before .before .before .before .before .operation .given .1) (at .loop .inv .2) (c .before .before .before .names-earlier .ensures)
           ∙ not-false _ (c .before .before .if1 .left)),
     )
 
