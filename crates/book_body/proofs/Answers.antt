@@ -1,4 +1,5 @@
--- What holds of each refusal that may come, and of what is accepted, holds of the reader's answer.
+-- What holds of each refusal that may come, and of what is accepted, holds of the reader's answer. The worked cases are named so that
+-- they are checked first.
 -- Assumes nothing.
 use mathlib.Core.List.{List}
 use Prim.Native.Nat.{ℕ, _/_}
@@ -6,6 +7,7 @@ use lib.ListN.{length}
 use Rattle.search.specs.declared.Place.{Place}
 use Rattle.search.specs.declared.Place.the-variants.{At, Nowhere}
 use Rattle.book_body.specs.Body.{badOperation, badError, badChoice, ReaderAnswer, refused, accepted, refuseAt, readBodies}
+use Rattle.book_body.proofs.Cases
 
 module _ (P : ReaderAnswer → Type 0) where
   pub at-cases : (number : ℕ) (p : Place) {rest : ReaderAnswer} → ((k : ℕ) → P (refused number k)) → P rest → P (refuseAt number p rest)

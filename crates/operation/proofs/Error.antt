@@ -1,4 +1,4 @@
--- What an error keeps: the length, rows, tableaus, powers below d.
+-- What an error keeps: the length, rows, tableaus, powers below d. The worked cases are named so that they are checked first.
 -- Assumes nothing.
 use mathlib.Core.Path.{_≡_, _∙_}
 use mathlib.Core.Bool.{true}
@@ -14,6 +14,7 @@ use Rattle.tableau.specs.Tableau.{every}
 use Rattle.tableau.proofs.Parts.{Keeps}
 use Rattle.operation.specs.declared.WeylError.{WeylError}
 use Rattle.operation.specs.Error.{errorAllowed, errorRow, errorFrame, minusX}
+use Rattle.operation.proofs.Cases
 use Rattle.operation.proofs.Stores.{powers-store, row-phase}
 
 module _ (d n : ℕ) (e : WeylError) where

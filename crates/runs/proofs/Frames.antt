@@ -1,4 +1,4 @@
--- Frames stay 2n powers below d, and rows with shifted phases stay rows.
+-- Frames stay 2n powers below d, and rows with shifted phases stay rows. The worked runs are named so that they are checked first.
 -- Assumes nothing.
 use mathlib.Core.Path.{_≡_, refl, _∙_}
 use mathlib.Core.Bool.{Bool, true, false, cond}
@@ -23,6 +23,7 @@ use Rattle.operation.proofs.Error.{error-frame-length, error-powers}
 use Rattle.circuit.specs.Circuit.{opAt, errAt, Kind, gate, measures, resets, corrects}
 use Rattle.runs.specs.Frame.{Frame, noFrame, errorsOnFrame, resetFrame, correctFrame, shiftRow}
 use Rattle.runs.specs.Raised.{Carry, carryBy}
+use Rattle.runs.proofs.Worked
 
 -- the first frame has no powers; bytes past a list's end count as 0
 zeros : (m s : ℕ) → getD (replicate {A = ℕ} m 0) s 0 ≡ 0

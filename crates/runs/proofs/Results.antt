@@ -1,4 +1,5 @@
--- Measurements are numbered in order, and each writes two bytes of its own; the results keep their length.
+-- Measurements are numbered in order, and each writes two bytes of its own; the results keep their length. The worked runs are named so
+-- that they are checked first: a definition that is wrong fails in a run before it fails in a law.
 -- Assumes nothing.
 use mathlib.Core.Path.{_≡_, refl, ap, _∙_}
 use mathlib.Core.Logic.{_≢_}
@@ -19,6 +20,7 @@ use Rattle.measurement.specs.Look.{look}
 use Rattle.runs.specs.Run.{stepsFrom, withResult}
 use Rattle.runs.specs.Frame.{FrameState, frameLook, frameKind, frameErrors, frameStep, frameSteps, frameLeaves, frameRunFrom, frameRun}
 use Rattle.runs.specs.Direct.{State, directLook, directKind, directErrors, directStep, directRun}
+use Rattle.runs.proofs.Worked
 
 pub is-measure : (op : Operation) (q : ℕ) → kind op ≡ measures q → op ≡ Measure q
 is-measure (Fourier c k) q e = cc

@@ -30,7 +30,7 @@ shared-slice-read-subtract c = search needs
 subtract-requires : tie.Need-subtract-requires Inv-loop μ-loop
 subtract-requires c κs =
     let s = c .before .before .before .before .before in
-    (s .pre .6 .dimension, s .pre .5 (c .before .before .loop .l) (omega arith), s .pre .3)
+    (s .pre .6 .dimension, s .pre .5 (c .before .before .loop .l) (omega arith), omega (arith, s .pre .3))
 
 correct-lane-requires : tie.Need-correct-lane-requires Inv-loop μ-loop
 correct-lane-requires c κs =
