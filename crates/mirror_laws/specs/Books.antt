@@ -17,7 +17,7 @@ use Rattle.direct_run.specs.DirectBook.{DirectLeft, directBook}
 use Rattle.mirror_book.specs.Mirrored.{mirrored}
 use Rattle.mirror_book.specs.MirrorBook.{mirrorOf, mirrorBytes, firstMeasurement, mirrorBook}
 
--- The reader accepts the mirror of a book without measurements, with the same d, n and number of operations, no errors and no choices,
+-- The reader accepts the mirror of a book of gates alone, with the same d, n and number of operations, no errors and no choices,
 -- and reads the mirrored operations.
 pub record IsMirror (d n operations : ℕ) (s mirror : List ℕ) : Type 0 where
   pub accepts : readBook mirror ≡ accepted d n operations 0 0
@@ -35,7 +35,7 @@ MirrorTwice = (s : List ℕ) (d n operations errors choices : ℕ) → readBook 
     → firstMeasurement (opsIn s d n) ≡ Nowhere
     → mirrorOf d n (mirrorOf d n s) ≡ errorless d n s
 
--- A call that returns 0 was handed a book without measurements. It returns how many bytes it wrote, they are the mirror book, and no
+-- A call that returns 0 was handed a book of gates alone. It returns how many bytes it wrote, they are the mirror book, and no
 -- byte past them changed.
 pub record MirrorFilled (d n operations : ℕ) (s out : List ℕ) (left : WriteLeft) : Type 0 where
   pub gates : firstMeasurement (opsIn s d n) ≡ Nowhere

@@ -131,7 +131,7 @@ rewritten = writer.rewritten
 pub fills-only-book : FillsOnlyBook
 fills-only-book = writer.fills-only-book
 
--- The reader accepts the mirror of a book without measurements, with the same d, n and number of operations and nothing else, and reads the
+-- The reader accepts the mirror of a book of gates alone, with the same d, n and number of operations and nothing else, and reads the
 -- operations reversed, each turned into its inverse.
 pub mirror-accepted : MirrorAccepted
 mirror-accepted = mirrored-books.mirror-accepted
