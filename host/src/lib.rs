@@ -61,7 +61,8 @@
 //! - [`operations`] has, for each operation, what it does to levels, to X and Z and to rows.
 //! - [`drawing`] explains the symbols of a drawing.
 //! - [`Simulation`] runs a circuit from level 0 or from any [`Tableau`], with its errors applied where
-//!   they strike or carried to the end as one [`Frame`].
+//!   they strike or carried to the end as one [`Frame`]. A [`Run`] is halted on the way and looked
+//!   into.
 //! - [`tray_run`] runs one circuit with many lists of errors.
 //!
 //! # Carrying the errors
@@ -74,6 +75,40 @@
 //! Its [`Verdict`] says whether the errors changed the final state: it is clean exactly if the run
 //! without errors ends with the same stabilizer set. It says nothing of the results, which an error
 //! may have changed on the way. Destabilizer shifts are written but not judged.
+//!
+//! # Looking in
+//!
+//! A direct run can be halted after any operation, looked into and continued, and none of that
+//! changes it. A [`Look`] tells what a measurement of a qudit would be, without making it.
+//! [`Simulation::start`] gives such a [`Run`]; on bytes [`go_on`] and [`look()`] do the same.
+//!
+//! ```
+//! use cagvost::{Book, Look, Simulation};
+//!
+//! let book: Book = "
+//!     qudits 2 dimension 3
+//!     fourier 0
+//!     sum 0 1
+//!     error 1 x
+//!     measure 0 choose 2
+//!     measure 1
+//! "
+//! .parse()?;
+//! let simulation = Simulation::new(&book)?;
+//!
+//! let mut run = simulation.start();
+//! run.advance(2); // Fourier and SUM
+//! assert_eq!(run.look(1)?, Look::Free);
+//! run.advance(1); // the error, and the first measurement
+//! assert_eq!(run.outcomes()[0].value, 2);
+//! assert_eq!(run.look(1)?, Look::Certain(0));
+//! assert_eq!(run.finish(), simulation.direct());
+//! # Ok::<(), Box<dyn std::error::Error>>(())
+//! ```
+//!
+//! An error is placed before an operation and strikes with it: where a run has halted, the errors
+//! before its next operation are not yet applied. `examples/halt.rs` in this package looks at each
+//! qudit after each operation.
 //!
 //! # Resets and corrections
 //!
@@ -216,9 +251,9 @@
 //! let mut results = [0; cagvost::results_len(2)];
 //!
 //! cagvost::layer(&mut tableau, 3, 2)?;
-//! let measurements = cagvost::direct_run(&book, &mut tableau, &mut results)?;
+//! let run = cagvost::direct_run(&book, &mut tableau, &mut results)?;
 //!
-//! assert_eq!(measurements, 2);
+//! assert_eq!((run.measurements, run.next), (2, 5)); // finished: past all four operations
 //! assert_eq!(results, [2, 1, 0, 0]); // qudit 0 free: the choice, 2; qudit 1 certain: 0
 //! assert_eq!(
 //!     tableau,
@@ -270,14 +305,17 @@
 #![deny(unsafe_code)]
 
 pub mod book;
+mod direct;
 pub mod drawing;
 mod frame;
 #[allow(unsafe_code)]
 mod library;
+mod look;
 mod mirror;
 #[doc = include_str!("../../docs/OPERATIONS.md")]
 pub mod operations {}
 mod refusal;
+mod run;
 pub mod share;
 pub mod simulation;
 mod tableau;
@@ -287,10 +325,13 @@ mod words;
 mod write;
 
 pub use book::{Book, Operation, WeylError};
+pub use direct::{DirectRun, direct_run, go_on};
 pub use drawing::Drawing;
 pub use frame::{FrameRun, Verdict, frame_len, frame_run, shifts_len};
+pub use look::{Look, look};
 pub use mirror::{mirror, mirror_len};
 pub use refusal::Refusal;
+pub use run::Run;
 pub use simulation::{DirectEnd, FrameEnd, Mark, Outcome, Simulation};
 pub use tableau::{Frame, Row, Tableau};
 pub use tray::{MAX_SHOTS, Shot, Shots, Tray, TrayCounts, shots_len, tray_run};
@@ -345,20 +386,6 @@ pub fn layer(tableau: &mut [u8], d: usize, n: usize) -> Result<(), Refusal> {
 /// n needs ([`tableau_len`]), and [`Refusal::InvalidTableau`], tested in this order.
 pub fn test_tableau(tableau: &[u8]) -> Result<(), Refusal> {
     counted(library::test(tableau)).map(drop)
-}
-
-/// Runs a book from the lent tableau, applying each error to the rows where it strikes.
-///
-/// Returns the number of measurements. Their outcomes and marks are in `results`, the final rows in
-/// `tableau`, behind the same two bytes.
-///
-/// # Errors
-///
-/// What is wrong with the book comes first ([`Refusal::BookHeader`] to [`Refusal::Choice`], in the
-/// order of their numbers), then [`Refusal::ShortBuffer`], where the tableau needs what the book's n
-/// says, then [`Refusal::InvalidTableau`], also where a tableau is of another d or n than the book.
-pub fn direct_run(book: &[u8], tableau: &mut [u8], results: &mut [u8]) -> Result<usize, Refusal> {
-    counted(library::direct_run(book, tableau, results))
 }
 
 /// The count of a success, or the refusal.

@@ -18,6 +18,26 @@ pub(crate) struct Answer {
     pub(crate) place: usize,
 }
 
+/// What a direct run returns, at once or where it halts: an answer and the number of its next
+/// operation, which is 0 with any refusal.
+#[repr(C)]
+#[derive(Clone, Copy, Debug, PartialEq, Eq)]
+pub(crate) struct DirectAnswer {
+    pub(crate) number: usize,
+    pub(crate) place: usize,
+    pub(crate) next: usize,
+}
+
+/// What a look returns: 0, then 1 and 0 for free, or 0 and the outcome for certain; or a refusal's
+/// number, 0 and 0.
+#[repr(C)]
+#[derive(Clone, Copy, Debug, PartialEq, Eq)]
+pub(crate) struct LookAnswer {
+    pub(crate) number: usize,
+    pub(crate) free: usize,
+    pub(crate) outcome: usize,
+}
+
 /// What the frame run returns: an answer and its verdict, which is 0 with any refusal.
 #[repr(C)]
 #[derive(Clone, Copy, Debug, PartialEq, Eq)]
@@ -40,6 +60,7 @@ pub(crate) struct TrayAnswer {
 unsafe extern "C" {
     fn cagvost_layer(t: *mut u8, t_len: usize, d: usize, n: usize) -> Answer;
     fn cagvost_test(t: *const u8, t_len: usize) -> Answer;
+    fn cagvost_look(t: *const u8, t_len: usize, qudit: usize) -> LookAnswer;
     fn cagvost_direct_run(
         book: *const u8,
         book_len: usize,
@@ -47,7 +68,17 @@ unsafe extern "C" {
         t_len: usize,
         results: *mut u8,
         results_len: usize,
-    ) -> Answer;
+    ) -> DirectAnswer;
+    fn cagvost_go_on(
+        book: *const u8,
+        book_len: usize,
+        t: *mut u8,
+        t_len: usize,
+        results: *mut u8,
+        results_len: usize,
+        from: usize,
+        count: usize,
+    ) -> DirectAnswer;
     fn cagvost_frame_run(
         book: *const u8,
         book_len: usize,
@@ -95,7 +126,12 @@ pub(crate) fn test(tableau: &[u8]) -> Answer {
     unsafe { cagvost_test(tableau.as_ptr(), tableau.len()) }
 }
 
-pub(crate) fn direct_run(book: &[u8], tableau: &mut [u8], results: &mut [u8]) -> Answer {
+pub(crate) fn look(tableau: &[u8], qudit: usize) -> LookAnswer {
+    // SAFETY: see the head of this module; the library does not write this buffer.
+    unsafe { cagvost_look(tableau.as_ptr(), tableau.len(), qudit) }
+}
+
+pub(crate) fn direct_run(book: &[u8], tableau: &mut [u8], results: &mut [u8]) -> DirectAnswer {
     // SAFETY: see the head of this module; the library does not write the book.
     unsafe {
         cagvost_direct_run(
@@ -105,6 +141,28 @@ pub(crate) fn direct_run(book: &[u8], tableau: &mut [u8], results: &mut [u8]) ->
             tableau.len(),
             results.as_mut_ptr(),
             results.len(),
+        )
+    }
+}
+
+pub(crate) fn go_on(
+    book: &[u8],
+    tableau: &mut [u8],
+    results: &mut [u8],
+    from: usize,
+    count: usize,
+) -> DirectAnswer {
+    // SAFETY: see the head of this module; the library does not write the book.
+    unsafe {
+        cagvost_go_on(
+            book.as_ptr(),
+            book.len(),
+            tableau.as_mut_ptr(),
+            tableau.len(),
+            results.as_mut_ptr(),
+            results.len(),
+            from,
+            count,
         )
     }
 }
@@ -197,20 +255,63 @@ mod tests {
         assert_eq!(test(&tableau), DONE);
     }
 
+    fn numbers(answer: DirectAnswer) -> (usize, usize, usize) {
+        (answer.number, answer.place, answer.next)
+    }
+
     #[test]
     fn a_run_succeeds_with_0_and_its_measurements() {
         let mut tableau = [0; crate::tableau_len(1)];
         layer(&mut tableau, 3, 1);
         let mut book = Book::new(3, 1);
+        let mut run = |book: &Book, room: &mut [u8]| {
+            numbers(direct_run(&book.to_bytes(), &mut tableau, room))
+        };
+        assert_eq!(run(&book, &mut []), (0, 0, 1));
         book.operation(Operation::Fourier { q: 0, times: 1 });
-        assert_eq!(direct_run(&book.to_bytes(), &mut tableau, &mut []), DONE);
+        assert_eq!(run(&book, &mut []), (0, 0, 2));
         book.measure(0, 1).measure(0, 2).measure(0, 0);
-        let answer = direct_run(&book.to_bytes(), &mut tableau, &mut [0; 6]);
-        assert_eq!((answer.number, answer.place), (0, 3));
+        assert_eq!(run(&book, &mut [0; 6]), (0, 3, 5));
+        assert_eq!(run(&book, &mut [0; 5]), (8, 0, 0));
         // Neither of these is a measurement, so that there is room for all results.
         book.reset(0, 2).correct(0, 1);
-        let answer = direct_run(&book.to_bytes(), &mut tableau, &mut [0; 6]);
-        assert_eq!((answer.number, answer.place), (0, 3));
+        assert_eq!(run(&book, &mut [0; 6]), (0, 3, 7));
+        book.choice(0);
+        assert_eq!(run(&book, &mut [0; 6]), (7, 4, 0));
+    }
+
+    #[test]
+    fn going_on_ends_with_the_next_number_and_a_refusal_with_0() {
+        let mut tableau = [0; crate::tableau_len(1)];
+        layer(&mut tableau, 3, 1);
+        let book = Book::new(3, 1).measure(0, 1).reset(0, 2).to_bytes();
+        let mut run = |book: &[u8], room: &mut [u8], from, count| {
+            numbers(go_on(book, &mut tableau, room, from, count))
+        };
+        assert_eq!(run(&book, &mut [7; 2], 0, 0), (0, 1, 0));
+        assert_eq!(run(&book, &mut [7; 2], 0, 1), (0, 1, 1));
+        assert_eq!(run(&book, &mut [7; 2], 1, 1), (0, 1, 2));
+        assert_eq!(run(&book, &mut [7; 2], 1, 2), (0, 1, 3));
+        assert_eq!(run(&book, &mut [7; 2], 3, 1), (0, 1, 3));
+        assert_eq!(run(&book, &mut [7; 2], 4, 1), (13, 0, 0));
+        assert_eq!(run(&book, &mut [7; 1], 1, 1), (8, 0, 0));
+        assert_eq!(run(&book[1..], &mut [7; 2], 1, 1), (1, 0, 0));
+    }
+
+    #[test]
+    fn a_look_tells_two_numbers_and_a_refusal_has_0_and_0() {
+        let numbers = |a: LookAnswer| (a.number, a.free, a.outcome);
+        let mut tableau = [0; crate::tableau_len(1)];
+        layer(&mut tableau, 3, 1);
+        assert_eq!(numbers(look(&tableau, 0)), (0, 0, 0));
+        assert_eq!(numbers(look(&tableau, 1)), (13, 0, 0));
+        assert_eq!(numbers(look(&tableau[1..], 0)), (2, 0, 0));
+        let mut book = Book::new(3, 1);
+        direct_run(&book.error(0, 2, 0).to_bytes(), &mut tableau, &mut []);
+        assert_eq!(numbers(look(&tableau, 0)), (0, 0, 2));
+        book.operation(Operation::Fourier { q: 0, times: 1 });
+        direct_run(&book.to_bytes(), &mut tableau, &mut []);
+        assert_eq!(numbers(look(&tableau, 0)), (0, 1, 0));
     }
 
     #[test]

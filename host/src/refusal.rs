@@ -3,8 +3,9 @@
 use std::error::Error;
 use std::fmt;
 
-/// Why a call refused: one variant for each listed number, with the place where it says one. Only 6
-/// has two, for an error of the book and for one of a tray.
+/// Why a call refused: one variant for each listed number, with the place where it says one. Only two
+/// numbers have two: 6, for an error of the book and for one of a tray, and 13, by a look and where a
+/// run goes on.
 ///
 /// A refusal leaves every lent buffer as it was. All tests come before the work, and the work itself
 /// never refuses.
@@ -76,10 +77,15 @@ pub enum Refusal {
         /// The first of these, by its index among all operations.
         index: usize,
     },
+    /// 13, by a look alone: the tableau is good and does not have the qudit looked at.
+    NoSuchQudit,
+    /// 13, by going on alone: the book and the buffers are good, and the number to go on from is more
+    /// than that of a finished run, the number of operations plus one.
+    PastTheFinish,
 }
 
 impl Refusal {
-    /// The listed number: from 1 to 9, 11 or 12.
+    /// The listed number: from 1 to 9, or from 11 to 13.
     pub fn number(self) -> usize {
         match self {
             Refusal::BookHeader => 1,
@@ -93,6 +99,7 @@ impl Refusal {
             Refusal::InvalidTableau => 9,
             Refusal::Tray => 11,
             Refusal::Measurement { .. } => 12,
+            Refusal::NoSuchQudit | Refusal::PastTheFinish => 13,
         }
     }
 
@@ -151,11 +158,17 @@ impl Refusal {
             Refusal::Measurement { .. } => {
                 "this operation is the book's first measurement, reset or correction, and a circuit that has one of these has no mirror"
             }
+            Refusal::NoSuchQudit => {
+                "the tableau has no qudit of this number to look at: qudits are counted from 0"
+            }
+            Refusal::PastTheFinish => {
+                "there is nothing to go on from: this number is more than that of a finished run, which is the number of operations plus one"
+            }
         }
     }
 
     /// The refusal that the library names. By 6 it names the book's error here; a tray run tells
-    /// its shot apart.
+    /// its shot apart. 13 has no meaning here: the two calls that have it tell it themselves.
     ///
     /// Another number or place than the listed ones is proved not to come, so it can only mean that
     /// this package was linked with a library of another version: no result of it is to be trusted.
@@ -208,6 +221,8 @@ mod tests {
         }
         keeps(Refusal::TrayShot { shot: 4095 }, 6, 4095);
         keeps(Refusal::listed(12, 4095), 12, 4095);
+        keeps(Refusal::NoSuchQudit, 13, 0);
+        keeps(Refusal::PastTheFinish, 13, 0);
     }
 
     fn keeps(refusal: Refusal, number: usize, place: usize) {
@@ -226,6 +241,16 @@ mod tests {
         assert_ne!(book, tray);
         assert!(!book.to_string().contains("tray"));
         assert!(tray.to_string().contains("shot of the tray"));
+    }
+
+    /// The words for 13 say whether a qudit or a number is meant.
+    #[test]
+    fn the_words_for_13_tell_a_look_and_going_on_apart() {
+        let [look, going_on] = [Refusal::NoSuchQudit, Refusal::PastTheFinish].map(Refusal::meaning);
+        assert!(
+            look.contains("no qudit of this number to look at") && !look.contains("operations")
+        );
+        assert!(going_on.contains("number of operations plus one") && !going_on.contains("qudit"));
     }
 
     /// A measurement is counted among all operations, and not among the measurements.
@@ -283,5 +308,12 @@ mod tests {
     #[should_panic(expected = "another version")]
     fn a_tray_has_no_place() {
         Refusal::listed(11, 1);
+    }
+
+    /// It means one thing by a look and another where a run goes on.
+    #[test]
+    #[should_panic(expected = "another version: it refused 13 at 0")]
+    fn the_number_13_alone_means_nothing() {
+        Refusal::listed(13, 0);
     }
 }

@@ -45,25 +45,40 @@
 //! ```
 
 use crate::book::{Book, Operation};
-use crate::{Frame, FrameRun, Refusal, Tableau, Verdict};
+use crate::{Frame, FrameRun, Refusal, Run, Tableau, Verdict};
 use crate::{direct_run, frame_len, frame_run, results_len, shifts_len};
 use std::fmt;
 
 /// A book and the tableau that its runs start from.
 ///
-/// Both runs start anew from that tableau, any number of times, and neither changes anything for the
-/// other.
+/// Runs start anew from that tableau, any number of times, and none changes anything for another.
 ///
 /// They cannot refuse. By its contract a run refuses only what the reader refuses in the book, a
-/// buffer that is too short, and a tableau that is not valid or of another d or n. Here the book was
-/// written by the proved writer, whose books the reader is proved to accept. The tableau is valid, as
-/// each [`Tableau`] is, its d and n are the book's, and the buffers have the needed lengths.
+/// buffer that is too short, a tableau that is not valid or of another d or n, and a number to go on
+/// from that no run has reached. Here the book was written by the proved writer, whose books the
+/// reader is proved to accept. The tableau is valid, as each [`Tableau`] is, its d and n are the
+/// book's, and the buffers have the needed lengths. A [`Run`] goes on from the number that it has
+/// reached.
 #[derive(Clone, Debug)]
 pub struct Simulation {
-    book: Vec<u8>,
-    /// The measured qudits, in the book's order.
-    measured: Vec<u8>,
+    book: Written,
     start: Tableau,
+}
+
+/// A book that was written by the proved writer, and what its runs have to know of it.
+#[derive(Clone, Debug)]
+pub(crate) struct Written {
+    pub(crate) bytes: Vec<u8>,
+    pub(crate) operations: usize,
+    /// In the book's order.
+    measurements: Vec<Measurement>,
+}
+
+/// Where a book measures: the operation and its qudit.
+#[derive(Clone, Copy, Debug)]
+struct Measurement {
+    operation: usize,
+    qudit: u8,
 }
 
 impl Simulation {
@@ -73,9 +88,12 @@ impl Simulation {
     ///
     /// What a run refuses in the book, as [`Book::write`] has it.
     pub fn new(book: &Book) -> Result<Simulation, Refusal> {
-        let bytes = book.write()?;
-        let zero = Tableau::zero(book.dimension().into(), book.qudits().into())?;
-        Ok(Simulation::of(book, bytes, zero))
+        let written = Written::new(book)?;
+        let start = Tableau::zero(book.dimension().into(), book.qudits().into())?;
+        Ok(Simulation {
+            book: written,
+            start,
+        })
     }
 
     /// A simulation of this book that starts from another tableau.
@@ -98,23 +116,11 @@ impl Simulation {
     /// What a run refuses in the book, as [`Book::write`] has it, and then
     /// [`Refusal::InvalidTableau`] if the tableau is of another d or n than the book.
     pub fn starting_from(book: &Book, start: Tableau) -> Result<Simulation, Refusal> {
-        let bytes = book.write()?;
         let sizes = (book.dimension(), book.qudits());
+        let book = Written::new(book)?;
         match (start.dimension(), start.qudits()) == sizes {
-            true => Ok(Simulation::of(book, bytes, start)),
+            true => Ok(Simulation { book, start }),
             false => Err(Refusal::InvalidTableau),
-        }
-    }
-
-    fn of(book: &Book, bytes: Vec<u8>, start: Tableau) -> Simulation {
-        let measured = |operation: &Operation| match *operation {
-            Operation::Measure { q } => Some(q),
-            _ => None,
-        };
-        Simulation {
-            book: bytes,
-            measured: book.operations().iter().filter_map(measured).collect(),
-            start,
         }
     }
 
@@ -124,13 +130,31 @@ impl Simulation {
     ///
     /// Only if this package was linked with a library of another version.
     pub fn direct(&self) -> DirectEnd {
-        let mut tableau = self.start.as_bytes().to_vec();
-        let mut results = self.results();
-        direct_run(&self.book, &mut tableau, &mut results).unwrap_or_else(refused);
+        let (mut tableau, mut results) = (self.start.clone(), self.book.room());
+        let run = direct_run(&self.book.bytes, tableau.lend(), &mut results);
+        let run = run.unwrap_or_else(refused);
         DirectEnd {
-            outcomes: self.outcomes(&results),
-            tableau: Tableau::left(tableau),
+            outcomes: self.book.outcomes(&results, run.next),
+            tableau,
         }
+    }
+
+    /// A direct run that can be halted, looked into and continued. It stands before operation 0.
+    ///
+    /// ```
+    /// use cagvost::{Book, Look, Simulation};
+    ///
+    /// let book: Book = "qudits 2 dimension 3\nfourier 0\nsum 0 1\nmeasure 1".parse()?;
+    /// let mut run = Simulation::new(&book)?.start();
+    /// run.advance(1);
+    /// assert_eq!([run.look(0)?, run.look(1)?], [Look::Free, Look::Certain(0)]);
+    /// run.advance(1);
+    /// assert_eq!([run.look(0)?, run.look(1)?], [Look::Free, Look::Free]);
+    /// println!("{}", run.finish().tableau);
+    /// # Ok::<(), Box<dyn std::error::Error>>(())
+    /// ```
+    pub fn start(&self) -> Run {
+        Run::new(self.book.clone(), self.start.clone())
     }
 
     /// A [`frame_run`]: all errors are carried to the end as one frame.
@@ -140,12 +164,11 @@ impl Simulation {
     /// Only if this package was linked with a library of another version.
     pub fn frame(&self) -> FrameEnd {
         let n = self.start.qudits().into();
-        let mut tableau = self.start.as_bytes().to_vec();
-        let mut results = self.results();
+        let (mut tableau, mut results) = (self.start.clone(), self.book.room());
         let (mut shifts, mut frame) = (vec![0; shifts_len(n)], vec![0; frame_len(n)]);
         let run = frame_run(
-            &self.book,
-            &mut tableau,
+            &self.book.bytes,
+            tableau.lend(),
             &mut results,
             &mut shifts,
             &mut frame,
@@ -153,32 +176,54 @@ impl Simulation {
         let FrameRun { verdict, .. } = run.unwrap_or_else(refused);
         let z = frame.split_off(n);
         FrameEnd {
-            outcomes: self.outcomes(&results),
-            tableau: Tableau::left(tableau),
+            outcomes: self.book.outcomes(&results, self.book.operations),
+            tableau,
             shifts,
             frame: Frame { x: frame, z },
             verdict,
         }
     }
+}
 
-    /// Room for the results of a run.
-    fn results(&self) -> Vec<u8> {
-        vec![0; results_len(self.measured.len())]
+impl Written {
+    fn new(book: &Book) -> Result<Written, Refusal> {
+        let measurement = |(operation, o): (usize, &Operation)| match *o {
+            Operation::Measure { q: qudit } => Some(Measurement { operation, qudit }),
+            _ => None,
+        };
+        let operations = book.operations();
+        Ok(Written {
+            bytes: book.write()?,
+            operations: operations.len(),
+            measurements: operations
+                .iter()
+                .enumerate()
+                .filter_map(measurement)
+                .collect(),
+        })
     }
 
-    fn outcomes(&self, results: &[u8]) -> Vec<Outcome> {
+    /// Room for the results of a run.
+    pub(crate) fn room(&self) -> Vec<u8> {
+        vec![0; results_len(self.measurements.len())]
+    }
+
+    /// The outcomes of the measurements before the operation of this number.
+    pub(crate) fn outcomes(&self, results: &[u8], next: usize) -> Vec<Outcome> {
         let (pairs, _) = results.as_chunks();
-        let outcome = |(&qudit, &[value, mark]): (&u8, &[u8; 2])| Outcome {
-            qudit,
+        let made = self.measurements.iter().zip(pairs);
+        let made = made.take_while(|(measurement, _)| measurement.operation < next);
+        let outcome = |(measurement, &[value, mark]): (&Measurement, &[u8; 2])| Outcome {
+            qudit: measurement.qudit,
             value,
             mark: Mark::listed(mark),
         };
-        self.measured.iter().zip(pairs).map(outcome).collect()
+        made.map(outcome).collect()
     }
 }
 
 /// A run that was laid by a `Simulation` is proved not to refuse, as with an unlisted number.
-fn refused<T>(refusal: Refusal) -> T {
+pub(crate) fn refused<T>(refusal: Refusal) -> T {
     panic!("the linked library is of another version: a tested book and tableau were {refusal}")
 }
 

@@ -1,7 +1,7 @@
 //! Tableaus that own their bytes, and their rows as a person reads them.
 
 use crate::book::MAX_QUDITS;
-use crate::{Refusal, layer, tableau_len, test_tableau};
+use crate::{Look, Refusal, layer, look, tableau_len, test_tableau};
 use std::fmt;
 
 /// Where the rows begin, behind d and n.
@@ -64,13 +64,13 @@ impl Tableau {
     /// As [`test_tableau`] has them.
     pub fn from_bytes(bytes: &[u8]) -> Result<Tableau, Refusal> {
         test_tableau(bytes)?;
-        let needed = tableau_len(bytes[1].into());
-        Ok(Tableau::left(bytes[..needed].to_vec()))
+        let bytes = bytes[..tableau_len(bytes[1].into())].to_vec();
+        Ok(Tableau { bytes })
     }
 
-    /// The tableau that a run has left in a buffer of the needed length. It is proved to be valid.
-    pub(crate) fn left(bytes: Vec<u8>) -> Tableau {
-        Tableau { bytes }
+    /// The bytes, lent to a run, which is proved to leave a valid tableau there.
+    pub(crate) fn lend(&mut self) -> &mut [u8] {
+        &mut self.bytes
     }
 
     /// The bytes: d, n and the rows, as [`direct_run`](crate::direct_run) takes them.
@@ -86,6 +86,28 @@ impl Tableau {
     /// The number of qudits.
     pub fn qudits(&self) -> u8 {
         self.bytes[1]
+    }
+
+    /// Looks at a qudit, counted from 0: what a measurement there would be.
+    ///
+    /// ```
+    /// use cagvost::{Book, Look, Refusal, Simulation, Tableau};
+    ///
+    /// let zero = Tableau::zero(3, 2)?;
+    /// assert_eq!(zero.look(1)?, Look::Certain(0));
+    /// assert_eq!(zero.look(2), Err(Refusal::NoSuchQudit));
+    ///
+    /// let book: Book = "qudits 2 dimension 3\nfourier 1".parse()?;
+    /// let turned = Simulation::new(&book)?.direct().tableau;
+    /// assert_eq!(turned.look(1)?, Look::Free);
+    /// # Ok::<(), Box<dyn std::error::Error>>(())
+    /// ```
+    ///
+    /// # Errors
+    ///
+    /// [`Refusal::NoSuchQudit`] if there is none of this number: there are [`Tableau::qudits`].
+    pub fn look(&self, qudit: usize) -> Result<Look, Refusal> {
+        look(&self.bytes, qudit)
     }
 
     /// Destabilizer `i`, counted from 0.

@@ -2,17 +2,27 @@
 
 use crate::common;
 
-use cagvost::Refusal;
 use cagvost::book::{Book, DIMENSIONS, Operation};
+use cagvost::{DirectRun, Refusal};
 use common::{PAPER_BOOK, ROWS, Rng, UNWRITTEN, named, paper_book, plain, with_byte};
 use common::{draw_tableau, zero_tableau};
+
+/// What the run of a book without operations returns.
+const EMPTY: DirectRun = DirectRun {
+    measurements: 0,
+    next: 1,
+};
 
 /// The tableau and the results of a book from the given tableau.
 fn run(book: &Book, tableau: &[u8]) -> (Vec<u8>, Vec<u8>) {
     let mut tableau = tableau.to_vec();
     let mut results = vec![UNWRITTEN; cagvost::results_len(book.measurements())];
     let returned = cagvost::direct_run(&book.to_bytes(), &mut tableau, &mut results);
-    assert_eq!(returned, Ok(book.measurements()));
+    let finished = DirectRun {
+        measurements: book.measurements(),
+        next: book.operations().len() + 1,
+    };
+    assert_eq!(returned, Ok(finished));
     (tableau, results)
 }
 
@@ -150,7 +160,7 @@ fn every_dimension_byte_of_a_book() {
         assert_eq!(
             returned,
             if listed {
-                Ok(0)
+                Ok(EMPTY)
             } else {
                 Err(Refusal::Dimension)
             }
@@ -192,7 +202,7 @@ fn every_qudit_count_byte_of_a_book() {
         assert_eq!(
             returned,
             if sized {
-                Ok(0)
+                Ok(EMPTY)
             } else {
                 Err(Refusal::QuditCount)
             }

@@ -142,6 +142,99 @@ fn the_direct_run_and_the_state() {
     assert_eq!(run(&["run", "--state", "-"]), format!("{frame}{state}"));
 }
 
+/// Runs the circuit of the specification, with these options.
+fn run_paper(options: &str) -> Ended {
+    let words = ["run", "-"].into_iter().chain(options.split_whitespace());
+    call_with(PAPER.as_bytes(), &Vec::from_iter(words))
+}
+
+/// What is seen at each number: the measurements made so far, the next operation with the errors that
+/// strike before it, looks and stabilizers.
+#[test]
+fn a_halted_run_is_listed_where_it_stands() {
+    let head = "d 3 n 2 operations 4 errors 1\n";
+    let halted = |k: usize, next: &str, errors: usize| {
+        format!(
+            "halted before operation {k} of 4: {next}; errors there not yet applied: {errors}\n"
+        )
+    };
+    let m = ["m 0 qudit 0 free 2\n", "m 1 qudit 1 certain 0\n"];
+    let at = |k: usize| run_paper(&format!("--halt {k} --look 0,1")).done();
+    let looks = |of: [&str; 2]| format!("look qudit 0 {}\nlook qudit 1 {}\n", of[0], of[1]);
+    let standing = [
+        halted(0, "fourier 0", 0) + &looks(["certain 0", "certain 0"]),
+        halted(1, "sum 0 1", 0) + &looks(["free", "certain 0"]),
+        halted(2, "measure 0", 1) + &looks(["free", "free"]),
+        m[0].to_string() + &halted(3, "measure 1", 0) + &looks(["certain 2", "certain 0"]),
+        m.concat()
+            + "halted after all 4 operations; errors there not yet applied: 0\n"
+            + &looks(["certain 2", "certain 0"]),
+        m.concat() + "finished\n" + &looks(["certain 2", "certain 0"]),
+    ];
+    for (k, standing) in standing.iter().enumerate() {
+        assert_eq!(at(k), format!("{head}{standing}"));
+    }
+    assert_eq!(at(usize::MAX), at(5));
+    let state = "stabilizer 0 X0^2 X1^2\nstabilizer 1 Z0^2 Z1\n";
+    assert_eq!(
+        run_paper("--state --halt=2").done(),
+        format!("{head}{}{state}", halted(2, "measure 0", 1))
+    );
+}
+
+/// The errors that strike after all operations are told where they are pending, and seen at the finish.
+#[test]
+fn errors_after_all_operations_come_at_the_finish() {
+    let text = b"qudits 1 dimension 5\nmeasure 0\nerror 0 x\nerror 0 x^2\n";
+    let run = |halt: &str| call_with(text, &["run", "-", "--look", "0", "--halt", halt]).done();
+    let head = "d 5 n 1 operations 1 errors 2\nm 0 qudit 0 certain 0\n";
+    let halted = "halted after all 1 operations; errors there not yet applied: 2\n";
+    assert_eq!(run("1"), format!("{head}{halted}look qudit 0 certain 0\n"));
+    assert_eq!(
+        run("2"),
+        format!("{head}finished\nlook qudit 0 certain 3\n")
+    );
+}
+
+/// A look without a halt is at the end of a direct run. The order and number of looks are the asked
+/// ones.
+#[test]
+fn looks_at_the_end_of_a_run() {
+    let direct = run_paper("--direct").done();
+    let looks = "look qudit 0 certain 2\nlook qudit 1 certain 0\n";
+    let ended = format!("{direct}finished\n");
+    assert_eq!(run_paper("--look all").done(), format!("{ended}{looks}"));
+    assert_eq!(
+        run_paper("--direct --look=0,1").done(),
+        format!("{ended}{looks}")
+    );
+    assert_eq!(run_paper("--halt 99").done(), ended);
+    let twice = "look qudit 1 certain 0\nlook qudit 0 certain 2\nlook qudit 1 certain 0\n";
+    assert_eq!(run_paper("--look 1,0,1").done(), format!("{ended}{twice}"));
+}
+
+/// No qudit is cut to a byte.
+#[test]
+fn a_look_at_no_qudit_is_refused_by_13() {
+    for q in [2, 255, 256, 257, 300, usize::MAX] {
+        for options in [
+            format!("--look {q}"),
+            format!("--halt 2 --look 0,{q} --state"),
+        ] {
+            let words = format!(
+                "standard input: qudit {q}: refused 13 at 0: the tableau has no qudit of this number"
+            );
+            run_paper(&options).failed(1, &words);
+        }
+    }
+    // A refused circuit comes first.
+    let ended = call_with(
+        b"qudits 1 dimension 3\nsum 0 0\n",
+        &["run", "-", "--look", "7"],
+    );
+    assert_eq!((ended.status, ended.text()), (1, "refused 5 at 0\n"));
+}
+
 #[test]
 fn a_refused_text_is_listed_and_its_line_is_said() {
     let ended = call_with(
@@ -526,7 +619,7 @@ fn too_many_errors_are_refused() {
 
 // ---- What is shown elsewhere
 
-/// Both READMEs show shares and a drawing as they are printed, each behind its command.
+/// Both READMEs show shares, a drawing and a halted run as they are printed, each behind its command.
 #[test]
 fn the_readme_shows_what_is_printed() {
     for (name, line, gap) in [
@@ -536,6 +629,11 @@ fn the_readme_shows_what_is_printed() {
             "\n\n",
         ),
         ("README.md", "$ ./cagvost draw examples/ghz.circuit", "\n"),
+        (
+            "README.md",
+            "$ ./cagvost run examples/ghz.circuit --halt 4 --look 0,3,4",
+            "\n",
+        ),
         (
             "examples/README.md",
             "./cagvost share examples/memory.circuit --model examples/memory.model",
@@ -619,19 +717,18 @@ fn each_command_has_help() {
 
 /// Every option that a command takes is in its help.
 #[test]
-fn the_help_of_share_names_each_option() {
-    let help = call("share --help").done();
-    for option in [
-        "--error",
-        "--model",
-        "--shots",
-        "--seed",
-        "--threads",
-        "--shard",
-        "--sweep",
-        "--svg",
+fn the_help_names_each_option() {
+    for (command, options) in [
+        ("run", "--direct --state --halt --look"),
+        (
+            "share",
+            "--error --model --shots --seed --threads --shard --sweep --svg",
+        ),
     ] {
-        assert!(help.contains(&format!("\n  {option} ")), "{option}");
+        let help = call(&format!("{command} --help")).done();
+        for option in options.split(' ') {
+            assert!(help.contains(&format!("\n  {option} ")), "{option}");
+        }
     }
 }
 
@@ -649,6 +746,22 @@ fn a_wrong_command_line_does_nothing() {
             "run examples/paper.book --states",
             "there is no option --states",
         ),
+        ("run examples/paper.book --halt", "--halt needs a value"),
+        (
+            "run examples/paper.book --halt -1",
+            "--halt is '-1', and should be a number of operations",
+        ),
+        (
+            "run examples/paper.book --halt 99999999999999999999",
+            "--halt is '99999999999999999999'",
+        ),
+        (
+            "run examples/paper.book --look one",
+            "--look is 'one', and should be numbers of qudits, as in '0,3', or 'all'",
+        ),
+        ("run examples/paper.book --look 0,", "--look is '0,'"),
+        ("run examples/paper.book --look 0,-1", "--look is '0,-1'"),
+        ("run examples/paper.book --look 0 --look 1", "given twice"),
         ("run examples/missing.book", "examples/missing.book: "),
         ("run examples", "examples: "),
         (

@@ -1,17 +1,19 @@
 //! Both runs against a state vector: rows fix the state, marks and outcomes are its own, a frame
 //! leads from the state without errors to the one with errors, and the verdict says whether these
 //! are the same. A reset brings its qudit to level 0 there, and a correction lowers its target by the
-//! reported result. A circuit and then its mirror give back the state vector.
+//! reported result. A circuit and then its mirror give back the state vector. Where a run halts, looks
+//! tell what the state vector has there.
 
 use crate::common;
 
-use cagvost::Verdict;
 use cagvost::book::{Book, DIMENSIONS, Operation, WeylError};
+use cagvost::{Look, Verdict};
 use common::dense::{State, levels};
 use common::trays::{draw_circuit, draw_errors};
 use common::{ROWS, Rng, Shape, UNWRITTEN, Verdicts, paper_book, with_raised_choices, with_times};
 use common::{cz, draw_book, draw_error, every_factor, sum, times, zero_tableau};
 use common::{every_gate, operations_of};
+use std::slice::Iter;
 
 /// Rounding in a run of some dozens of gates stays far below, 1/d and a root's step far above.
 const CLOSE: f64 = 1e-9;
@@ -172,42 +174,77 @@ fn check_shifts(carried: &Carried, clean: &[u8], book: &Book) {
     assert_eq!(carried.verdict == Verdict::Shifted, shifted, "{book:?}");
 }
 
-/// The state after the book, each measurement checked with the result that the run gave. A correction
-/// is by that result, and a reset by the outcome that the state has.
+/// The state after the book, each measurement checked with the result that the run gave.
 fn replay(book: &Book, results: &[u8], seen: &mut Seen) -> State {
-    let mut state = State::zero(book.dimension().into(), book.qudits().into());
-    let (mut measured, mut choices) = (results.chunks(2), book.choices().iter());
-    let mut choice = || *choices.next().expect("a choice");
+    let mut replay = Replay::new(book);
     for k in 0..=book.operations().len() {
-        for &error in book.errors().iter().filter(|e| usize::from(e.place) == k) {
-            state.apply_error(error);
-        }
-        match book.operations().get(k) {
-            None => {}
-            Some(&Operation::Measure { q }) => {
-                let result = measured.next().expect("a result per measurement");
-                let look = look(&state, q, book);
-                assert_eq!(result, look.unwrap_or([choice(), 1]), "{book:?}");
-                seen.free += usize::from(result[1] == 1);
-                seen.certain += usize::from(result[1] == 0 && result[0] != 0);
-                state.collapse(q, result[0].into());
-            }
-            Some(&Operation::Reset { q }) => {
-                let look = look(&state, q, book);
-                let [outcome, _] = look.unwrap_or([choice(), 1]);
-                seen.free_resets += usize::from(look.is_none());
-                seen.certain_resets += usize::from(look.is_some() && outcome != 0);
-                state.reset(q, outcome);
-            }
-            Some(&Operation::Correct { t, m }) => {
-                let result = results[2 * usize::from(m)];
-                seen.corrections += usize::from(result != 0);
-                state.lower(t, result);
-            }
-            Some(&gate) => state.gate(gate),
+        replay.stage(k, results, seen);
+    }
+    replay.state
+}
+
+/// A book on the state vector, as far as it has come.
+struct Replay<'a> {
+    book: &'a Book,
+    state: State,
+    choices: Iter<'a, u8>,
+    measured: usize,
+}
+
+impl<'a> Replay<'a> {
+    fn new(book: &'a Book) -> Replay<'a> {
+        Replay {
+            book,
+            state: State::zero(book.dimension().into(), book.qudits().into()),
+            choices: book.choices().iter(),
+            measured: 0,
         }
     }
-    state
+
+    /// The errors of place k, and operation k if there is one.
+    fn stage(&mut self, k: usize, results: &[u8], seen: &mut Seen) {
+        let errors = self.book.errors().iter();
+        for &error in errors.filter(|e| usize::from(e.place) == k) {
+            self.state.apply_error(error);
+        }
+        if let Some(&operation) = self.book.operations().get(k) {
+            self.operation(operation, results, seen);
+        }
+    }
+
+    /// A correction is by the result that the run gave, and a reset by the outcome that the state has.
+    fn operation(&mut self, operation: Operation, results: &[u8], seen: &mut Seen) {
+        match operation {
+            Operation::Measure { q } => {
+                let look = look(&self.state, q, self.book);
+                let expected = look.unwrap_or([self.choice(), 1]);
+                let result = &results[2 * self.measured..2 * self.measured + 2];
+                assert_eq!(result, expected, "{:?}", self.book);
+                seen.free += usize::from(result[1] == 1);
+                seen.certain += usize::from(result[1] == 0 && result[0] != 0);
+                self.state.collapse(q, result[0].into());
+                self.measured += 1;
+            }
+            Operation::Reset { q } => {
+                let look = look(&self.state, q, self.book);
+                let [outcome, _] = look.unwrap_or([self.choice(), 1]);
+                seen.free_resets += usize::from(look.is_none());
+                seen.certain_resets += usize::from(look.is_some() && outcome != 0);
+                self.state.reset(q, outcome);
+            }
+            Operation::Correct { t, m } => {
+                let result = results[2 * usize::from(m)];
+                seen.corrections += usize::from(result != 0);
+                self.state.lower(t, result);
+            }
+            gate => self.state.gate(gate),
+        }
+    }
+
+    /// The next choice. Each measurement and each reset takes one, also if it has no use for it.
+    fn choice(&mut self) -> u8 {
+        *self.choices.next().expect("a choice")
+    }
 }
 
 /// The level that a measurement is certain of, with the mark for it, or nothing if it is free: then
@@ -249,6 +286,66 @@ fn follow_drawn_circuits(d: u8) {
     let reused = [seen.free_resets, seen.certain_resets, seen.corrections];
     assert!(reused.iter().all(|&count| count > 100), "{reused:?}");
     seen.verdicts.are_enough(5);
+}
+
+/// How many looks were free, and certain of a level other than 0.
+#[derive(Default)]
+struct Told {
+    free: usize,
+    certain: usize,
+}
+
+/// A look at each qudit tells what the state has, and the stabilizers fix the state.
+fn check_looks(tableau: &[u8], state: &State, book: &Book, told: &mut Told) {
+    check_rows(tableau, state, book);
+    for q in 0..book.qudits() {
+        let expected = match look(state, q, book) {
+            None => Look::Free,
+            Some([level, _]) => Look::Certain(level),
+        };
+        let looked = cagvost::look(tableau, q.into());
+        assert_eq!(looked, Ok(expected), "qudit {q} of {book:?}");
+        told.free += usize::from(expected == Look::Free);
+        told.certain += usize::from(!matches!(expected, Look::Free | Look::Certain(0)));
+    }
+}
+
+/// Halts a direct run from the zero tableau at each number. The state vector has come as far: without
+/// the errors before the next operation.
+fn follow_halts(book: &Book, told: &mut Told) {
+    let (bytes, mut replay) = (book.to_bytes(), Replay::new(book));
+    let mut tableau = zero_tableau(book.dimension(), book.qudits());
+    let mut results = vec![UNWRITTEN; cagvost::results_len(book.measurements())];
+    check_looks(&tableau, &replay.state, book, told);
+    for k in 0..=book.operations().len() {
+        let run = cagvost::go_on(&bytes, &mut tableau, &mut results, k, 1);
+        assert_eq!(run.map(|run| run.next), Ok(k + 1));
+        replay.stage(k, &results, &mut Seen::default());
+        check_looks(&tableau, &replay.state, book, told);
+    }
+}
+
+#[test]
+fn looks_at_every_halt() {
+    let mut rng = Rng(9);
+    let mut told = Told::default();
+    for (d, n) in DIMENSIONS
+        .into_iter()
+        .flat_map(|d| small_sizes(d).map(move |n| (d, n)))
+    {
+        for _ in 0..20 {
+            let shape = Shape {
+                d,
+                n,
+                operations: rng.below(25),
+                errors: rng.below(25),
+                measure_one_in: 2 + rng.below(4),
+            };
+            follow_halts(&draw_book(&mut rng, shape), &mut told);
+        }
+    }
+    let told = [told.free, told.certain];
+    assert!(told.iter().all(|&count| count > 500), "{told:?}");
 }
 
 /// A test for each dimension, so that they run side by side.

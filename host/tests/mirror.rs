@@ -311,7 +311,7 @@ fn circuits_of_every_number_of_qudits_come_back() {
 /// The tableau after a direct run by the library alone.
 fn after(book: &[u8], tableau: &[u8]) -> Vec<u8> {
     let mut tableau = tableau.to_vec();
-    assert_eq!(cagvost::direct_run(book, &mut tableau, &mut []), Ok(0));
+    cagvost::direct_run(book, &mut tableau, &mut []).expect("an accepted book");
     tableau
 }
 

@@ -1067,6 +1067,7 @@ fn a_small_stack_is_enough() {
         let thread = small.spawn(move || run(lent, buffers)).expect("a thread");
         thread.join().expect("no panic")
     };
-    assert_eq!(on_small.0, Ok(100));
+    let direct = on_small.0.expect("an accepted book");
+    assert_eq!((direct.measurements, direct.next), (100, 4097));
     assert!(on_small == run(lent, buffers));
 }

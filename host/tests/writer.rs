@@ -315,8 +315,9 @@ fn every_length_of_the_buffer() {
 fn run(book: &[u8], measurements: usize) -> Run {
     let mut tableau = zero_tableau(book[1], book[2]);
     let mut results = vec![UNWRITTEN; 2 * measurements];
+    let run = cagvost::direct_run(book, &mut tableau, &mut results);
     Run {
-        returned: returned(cagvost::direct_run(book, &mut tableau, &mut results)),
+        returned: returned(run.map(|run| run.measurements)),
         tableau,
         results,
     }

@@ -46,29 +46,23 @@ pub record Handed (s : List ℕ) (d n measurements : ℕ) : Type 0 where
   pub counted : measurementsIn s d n ≡ measurements
   pub counted-part : measurementCount (operationsOf d n (partOf s operationsEntry)) ≡ measurements
 
-pub handed : (s : List ℕ) {reading : Reading} {b : Numbers} → (answerOf reading ≡ readBook s) × (measuredOf reading ≡ measuredBy (partOf s operationsEntry) (answerOf reading))
-    → reading ≡ Taken b
-    → Handed s (b .d) (b .n) (b .measurements)
-handed s {reading} {b} (e, counts) f =
-    let reads = sym e ∙ ap answerOf f in
-    let m = accepted-means s (b .d) (b .n) (b .operations) (b .errors) (b .choices) reads in
-    let none = no-refusal (b .d) (b .n) (b .operations) (b .errors) (b .choices) in
-    let p = all-passed s none reads in
+pub handed-reads : (s : List ℕ) {d n operations errors choices measurements : ℕ} → readBook s ≡ accepted d n operations errors choices
+    → measurementsIn s d n ≡ measurements
+    → Handed s d n measurements
+handed-reads s {d} {n} {operations} {errors} {choices} reads counted =
+    let m = accepted-means s d n operations errors choices reads in
+    let p = all-passed s (no-refusal d n operations errors choices) reads in
     let b1 = by-kind s 1 reads in
     let b2 = by-kind s 2 reads in
     let b3 = by-kind s 3 reads in
-    let own : b .measurements ≡ measurements (partOf s operationsEntry) (b .operations) =
-    sym (ap measuredOf f) ∙ counts ∙ ap (λ (r : Reading). measuredBy (partOf s operationsEntry) (answerOf r)) f in
-    let counted : measurementsIn s (b .d) (b .n) ≡ b .measurements =
-    ap (measured (operationsOf (b .d) (b .n) (bodyOf s 1))) (m .operation-count) ∙ m .measurement-count ∙ ap (λ (ops : List ℕ). measurements ops (b .operations)) b1 ∙ sym own in
     record {
-      operations = b .operations;
-      errors = b .errors;
-      choices = b .choices;
+      operations = operations;
+      errors = errors;
+      choices = choices;
       reads = reads;
       dimension = m .dimension-listed;
       qudits-sized = m .qudits-sized;
-      qudits = sized-most (b .n) (m .qudits-sized);
+      qudits = sized-most n (m .qudits-sized);
       bodies = inside s (p .head) (p .contents);
       first = b1;
       second = b2;
@@ -76,8 +70,22 @@ handed s {reading} {b} (e, counts) f =
       lists = rw (← b1, ← b2, ← b3) (m .lists);
       few = few-choices s (p .contents);
       counted = counted;
-      counted-part = ap (λ (ops : List ℕ). measurementCount (operationsOf (b .d) (b .n) ops)) (sym b1) ∙ counted;
+      counted-part = ap (λ (ops : List ℕ). measurementCount (operationsOf d n ops)) (sym b1) ∙ counted;
     }
+
+pub handed : (s : List ℕ) {reading : Reading} {b : Numbers} → (answerOf reading ≡ readBook s) × (measuredOf reading ≡ measuredBy (partOf s operationsEntry) (answerOf reading))
+    → reading ≡ Taken b
+    → Handed s (b .d) (b .n) (b .measurements)
+handed s {reading} {b} (e, counts) f =
+    let reads = sym e ∙ ap answerOf f in
+    let m = accepted-means s (b .d) (b .n) (b .operations) (b .errors) (b .choices) reads in
+    let own : b .measurements ≡ measurements (partOf s operationsEntry) (b .operations) =
+    sym (ap measuredOf f) ∙ counts ∙ ap (λ (r : Reading). measuredBy (partOf s operationsEntry) (answerOf r)) f in
+    handed-reads s reads
+    (ap (measured (operationsOf (b .d) (b .n) (bodyOf s 1))) (m .operation-count)
+    ∙ m .measurement-count
+    ∙ ap (λ (ops : List ℕ). measurements ops (b .operations)) (by-kind s 1 reads)
+    ∙ sym own)
 
 -- the bodies as a run is handed them
 pub bodies-of : (s : List ℕ) {d n measurements : ℕ} {ops errors cs : List ℕ} → Handed s d n measurements → ops ≡ partOf s operationsEntry → errors ≡ partOf s errorsEntry

@@ -23,7 +23,7 @@ use Rattle.run_laws.proofs.Books.{named-in}
 use Rattle.run_laws.proofs.Results.{related-none, Equal}
 use Rattle.run_laws.proofs.Buffers.{Twin, twin-run}
 use Rattle.run_laws.proofs.Clean.{clean-lists}
-use Rattle.direct_run.specs.DirectBook.{directBook}
+use Rattle.direct_book.specs.DirectBook.{directBook}
 use Rattle.frame_run.specs.FrameBook.{Buffers, frameBook}
 use Rattle.book_laws.specs.Lent.{Lent}
 use Rattle.book_laws.specs.Clean.{Compared, CleanExactly}

@@ -29,9 +29,13 @@ use Rattle.runs.specs.Direct.{stateOf, directRun}
 use Rattle.runs.specs.Frame.{noFrame, frameRun}
 use Rattle.run_laws.proofs.Sound.{run-keeps-valid}
 use Rattle.run_laws.proofs.Clean.{frame-keeps-valid}
-use Rattle.direct_run.specs.DirectBook.{DirectLeft, directBuffersFit, directByAnswer, directBook}
+use Rattle.halts.specs.Halt.{finished, directFrom}
+use Rattle.halts.proofs.Kept.{going-on-keeps-valid}
+use Rattle.direct_book.specs.DirectBook.{DirectLeft, directEnded, directBook}
+use Rattle.direct_book.specs.GoOn.{goneOn, goOnBook}
+use Rattle.direct_book.proofs.Tested.{left-cases, no-success}
 use Rattle.frame_run.specs.FrameBook.{FrameLeft, frameBuffersFit, frameByAnswer, frameBook}
-use Rattle.book_laws.specs.LeavesValid.{StillPasses, LayerLeavesValid, DirectLeavesValid, FrameLeavesValid}
+use Rattle.book_laws.specs.LeavesValid.{StillPasses, LayerLeavesValid, DirectLeavesValid, GoOnLeavesValid, FrameLeavesValid}
 
 pub layer-leaves-valid : LayerLeavesValid
 unfolding layerNumber layerLeaves
@@ -65,6 +69,12 @@ module _ (s : List ℕ) {d n operations errors choices : ℕ} (e : readBook s �
         left-valid t direct-rows (m .dimension-listed) (m .qudits-sized) room v
         (run-keeps-valid d n dim (opsIn s d n) (errorsIn s) (choicesIn s) (m .lists) (stateOf (rowsIn t) results) (valid-rows t room v))
 
+    going-passes : (from count : ℕ)
+        → StillPasses t (withRows t (directFrom d n (opsIn s d n) (errorsIn s) (choicesIn s) from count (stateOf (rowsIn t) results) .rows))
+    going-passes from count =
+        left-valid t _ (m .dimension-listed) (m .qudits-sized) room v
+        (going-on-keeps-valid d n dim (opsIn s d n) (errorsIn s) (choicesIn s) (m .lists) from count (stateOf (rowsIn t) results) (valid-rows t room v))
+
     module _ (shifts frame : List ℕ) where
       abbrev frame-rows : List ℕ
       frame-rows = frameRun d n (opsIn s d n) (errorsIn s) (choicesIn s) (stateOf (rowsIn t) results) shifts frame .rows
@@ -78,25 +88,23 @@ module _ (s : List ℕ) {d n operations errors choices : ℕ} (e : readBook s �
           frame)
 
 pub direct-leaves-valid : DirectLeavesValid
-unfolding directBook directByAnswer
+unfolding directBook
 direct-leaves-valid s t results =
-    read-cases (λ x. readBook s ≡ x → P (directByAnswer s t results x))
-    (λ e h. absurd (omega arith))
-    (λ e h. absurd (omega arith))
-    (λ e h. absurd (omega arith))
-    (λ k e h. absurd (omega arith))
-    (λ k e h. absurd (omega arith))
-    (λ k e h. absurd (omega arith))
-    (λ k e h. absurd (omega arith))
-    (λ d n o c m e.
-    unless-cases P (directBuffersFit n (measurementsIn s d n) t results) (λ r h. absurd (omega arith))
-    (λ r.
-    unless-cases P (validFor d n t) (λ v h. absurd (omega arith))
-    (λ v h. direct-passes s e t results (leb-true _ _ (both _ _ r .0)) v)))
-    s refl
+    left-cases s t results (λ left. left .number ≡ 0 → StillPasses t (left .tableau)) (directEnded s t results)
+    (λ number place e h. no-success number e h)
+    (λ d n o e c g h. direct-passes s (g .reads) t results (g .room) (g .for-book))
+
+pub go-on-leaves-valid : GoOnLeavesValid
+unfolding goOnBook
+go-on-leaves-valid s from count t results =
+    left-cases s t results P (goneOn s from count t results)
+    (λ number place e h. no-success number e h)
+    (λ d n o e c g.
+    unless-cases P (leb from (finished (length (opsIn s d n)))) (λ _ h. absurd (omega arith))
+    (λ _ h. going-passes s (g .reads) t results (g .room) (g .for-book) from count))
   where
     P : DirectLeft → Type 0
-    P l = l .number ≡ 0 → StillPasses t (l .tableau)
+    P left = left .number ≡ 0 → StillPasses t (left .tableau)
 
 pub frame-leaves-valid : FrameLeavesValid
 unfolding frameBook frameByAnswer frameBuffersFit

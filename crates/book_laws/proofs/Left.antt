@@ -18,18 +18,18 @@ use Rattle.book.specs.Decoded.{opsIn, errorsIn, choicesIn, measurementsIn}
 use Rattle.runs.specs.Direct.{stateOf, directRun}
 use Rattle.runs.specs.Frame.{frameRun}
 use Rattle.run_laws.proofs.Window.{Window, window-of, valid-window}
-use Rattle.direct_run.specs.DirectBook.{directEnded, directByAnswer, directBook}
+use Rattle.direct_book.specs.DirectBook.{directEnded, directBy, directBook}
+use Rattle.direct_book.proofs.Tested.{passes-tested}
 use Rattle.frame_run.specs.FrameBook.{Buffers, frameBuffersFit, frameEnded, frameByAnswer, frameBook}
 use Rattle.book_laws.specs.Lent.{Lent}
 
 -- the direct run, from any tableau that it takes
 pub direct-ended : {d n operations errors choices : ℕ} (s t results : List ℕ) → readBook s ≡ accepted d n operations errors choices
     → tableauBytes n ≤ length t → 2 * measurementsIn s d n ≤ length results → validFor d n t ≡ true
-    → directBook s t results
-    ≡ directEnded (measurementsIn s d n) t (directRun d n (opsIn s d n) (errorsIn s) (choicesIn s) (stateOf (rowsIn t) results))
-unfolding directBook directByAnswer
-direct-ended {d} {n} s t results e room enough valid =
-    rw (e, le-leb (tableauBytes n) (length t) room, le-leb (2 * measurementsIn s d n) (length results) enough, valid)
+    → directBook s t results ≡ directEnded s t results d n
+unfolding directBook directBy
+direct-ended s t results e room enough valid =
+    rw (passes-tested s t results (record { reads = e; room = room; results-room = enough; for-book = valid }))
 
 module _ {d n measurements : ℕ} {t results : List ℕ} {lent : Buffers} (given : Lent d n measurements t results lent) where
   -- the start tableau
@@ -55,7 +55,7 @@ module _ {d n measurements : ℕ} {t results : List ℕ} {lent : Buffers} (given
   pub window : Window n (rowsIn (lent .tableau)) (rowsIn t)
   window = window-of n (start .room) copy-room (λ i l. sym (copied-rows i l))
 
-  copy-for : validFor d n t ≡ true
+  pub copy-for : validFor d n t ≡ true
   copy-for =
       let h = copied-dimension ∙ given .start-dimension in
       let k = copied-qudits ∙ given .start-qudits in
@@ -70,8 +70,7 @@ module _ {d n measurements : ℕ} {t results : List ℕ} {lent : Buffers} (given
 
   pub direct-left : {operations errors choices : ℕ} (s : List ℕ) → readBook s ≡ accepted d n operations errors choices
       → measurementsIn s d n ≡ measurements
-      → directBook s t results
-      ≡ directEnded (measurementsIn s d n) t (directRun d n (opsIn s d n) (errorsIn s) (choicesIn s) (stateOf (rowsIn t) results))
+      → directBook s t results ≡ directEnded s t results d n
   direct-left s e m = direct-ended s t results e (given .copy-room) (rw m (given .direct-results)) copy-for
 
   pub frame-left : {operations errors choices : ℕ} (s : List ℕ) → readBook s ≡ accepted d n operations errors choices

@@ -10,7 +10,7 @@ use Rattle.book.specs.Book.{choicesEntry, offsetOf, readBook, bodyOf}
 use Rattle.book.specs.Decoded.{opsIn, errorsIn, choicesIn, measurementsIn}
 use Rattle.runs.specs.Frame.{noFrame}
 use Rattle.runs.specs.Raised.{raised}
-use Rattle.direct_run.specs.DirectBook.{DirectLeft, directBook}
+use Rattle.direct_book.specs.DirectBook.{DirectLeft, directBook}
 use Rattle.frame_run.specs.FrameBook.{Buffers, FrameLeft, frameBook}
 use Rattle.book_laws.specs.Lent.{Lent}
 

@@ -9,7 +9,7 @@ use Rattle.book_body.specs.Body.{accepted}
 use Rattle.book.specs.Book.{readBook}
 use Rattle.book.specs.Decoded.{measurementsIn}
 use Rattle.written_book.specs.Errorless.{errorless}
-use Rattle.direct_run.specs.DirectBook.{DirectLeft, directBook}
+use Rattle.direct_book.specs.DirectBook.{DirectLeft, directBook}
 use Rattle.frame_run.specs.FrameBook.{Buffers, FrameLeft, frameBook}
 use Rattle.book_laws.specs.Lent.{Lent}
 use Rattle.book_laws.specs.Agreement.{Alike}

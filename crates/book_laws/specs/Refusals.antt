@@ -8,7 +8,9 @@ use Rattle.modular.specs.Dimension.{among}
 use Rattle.saved_tableau.specs.Layer.{layerNumber, layerLeaves}
 use Rattle.saved_tableau.specs.Test.{testNumber}
 use Rattle.written_book.specs.Writer.{writeBook}
-use Rattle.direct_run.specs.DirectBook.{directBook}
+use Rattle.look_call.specs.LookBytes.{lookBytes}
+use Rattle.direct_book.specs.DirectBook.{DirectLeft, directBook}
+use Rattle.direct_book.specs.GoOn.{goOnBook}
 use Rattle.frame_run.specs.FrameBook.{Buffers, frameBook}
 use Rattle.shots.specs.Shots.{trayBook}
 use Rattle.mirror_book.specs.MirrorBook.{mirrorBook}
@@ -29,12 +31,21 @@ writerNumbers = 0 ∷ 2 ∷ 3 ∷ 4 ∷ 5 ∷ 6 ∷ 7 ∷ 8 ∷ []
 abbrev pub mirrorNumbers : List ℕ
 mirrorNumbers = 0 ∷ 1 ∷ 2 ∷ 3 ∷ 4 ∷ 5 ∷ 6 ∷ 7 ∷ 8 ∷ 12 ∷ []
 
+-- Going on: as a run, and 13. A look: as the tableau test, and 13.
+abbrev pub goOnNumbers : List ℕ
+goOnNumbers = 0 ∷ 1 ∷ 2 ∷ 3 ∷ 4 ∷ 5 ∷ 6 ∷ 7 ∷ 8 ∷ 9 ∷ 13 ∷ []
+
+abbrev pub lookNumbers : List ℕ
+lookNumbers = 0 ∷ 2 ∷ 3 ∷ 8 ∷ 9 ∷ 13 ∷ []
+
 -- No call returns a number that is not in its list.
 pub record NumbersListed : Type 0 where
   pub layer : (d n : ℕ) (t : List ℕ) → among (layerNumber d n t) (0 ∷ 2 ∷ 3 ∷ 8 ∷ []) ≡ true
   pub test : (t : List ℕ) → among (testNumber t) (0 ∷ 2 ∷ 3 ∷ 8 ∷ 9 ∷ []) ≡ true
   pub writer : (d n : ℕ) (ops errors choices out : List ℕ) → among (writeBook d n ops errors choices out .number) writerNumbers ≡ true
   pub direct : (s t results : List ℕ) → among (directBook s t results .number) runNumbers ≡ true
+  pub goOn : (s : List ℕ) (from count : ℕ) (t results : List ℕ) → among (goOnBook s from count t results .number) goOnNumbers ≡ true
+  pub look : (t : List ℕ) (qudit : ℕ) → among (lookBytes t qudit .number) lookNumbers ≡ true
   pub frame : (s : List ℕ) (lent : Buffers) → among (frameBook s lent .number) runNumbers ≡ true
   pub tray : (s tray t out : List ℕ) → among (trayBook s tray t out .number) trayNumbers ≡ true
   pub mirror : (s out : List ℕ) → among (mirrorBook s out .number) mirrorNumbers ≡ true
@@ -44,8 +55,8 @@ abbrev pub WriterNamesBody : Type 0
 WriterNamesBody = (d n : ℕ) (ops errors choices out : List ℕ) → writeBook d n ops errors choices out .number ≡ 4
     → writeBook d n ops errors choices out .place < 3
 
--- Each refusal leaves every buffer unchanged; the frame run's verdict and a tray's third number are then 0. The
--- tableau test writes no buffer.
+-- Each refusal leaves every buffer unchanged; the number of the next operation, the frame run's verdict and a tray's third number are then
+-- 0. The tableau test and a look write no buffer.
 abbrev pub LayerUnchanged : Type 0
 LayerUnchanged = (d n : ℕ) (t : List ℕ) → layerNumber d n t ≢ 0 → layerLeaves d n t ≡ t
 
@@ -53,9 +64,19 @@ abbrev pub WriterUnchanged : Type 0
 WriterUnchanged = (d n : ℕ) (ops errors choices out : List ℕ) → writeBook d n ops errors choices out .number ≢ 0
     → writeBook d n ops errors choices out .out ≡ out
 
+abbrev pub RunUnchanged : (t results : List ℕ) → DirectLeft → Type 0
+RunUnchanged t results left = (left .tableau ≡ t) × (left .results ≡ results) × (left .next ≡ 0)
+
 abbrev pub DirectUnchanged : Type 0
-DirectUnchanged = (s t results : List ℕ) → directBook s t results .number ≢ 0
-    → (directBook s t results .tableau ≡ t) × (directBook s t results .results ≡ results)
+DirectUnchanged = (s t results : List ℕ) → directBook s t results .number ≢ 0 → RunUnchanged t results (directBook s t results)
+
+abbrev pub GoOnUnchanged : Type 0
+GoOnUnchanged = (s : List ℕ) (from count : ℕ) (t results : List ℕ) → goOnBook s from count t results .number ≢ 0
+    → RunUnchanged t results (goOnBook s from count t results)
+
+-- A look that is refused tells nothing.
+abbrev pub LookUntold : Type 0
+LookUntold = (t : List ℕ) (qudit : ℕ) → lookBytes t qudit .number ≢ 0 → (lookBytes t qudit .free ≡ 0) × (lookBytes t qudit .outcome ≡ 0)
 
 abbrev pub FrameUnchanged : Type 0
 FrameUnchanged = (s : List ℕ) (lent : Buffers) → frameBook s lent .number ≢ 0

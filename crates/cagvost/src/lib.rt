@@ -1,15 +1,19 @@
-// What the host software calls: layer, tableau test, writer, the two runs, the run of a tray and the mirror, on numbers and byte
-// slices.
+// What the host software calls: layer, tableau test, look, writer, the two runs, going on with the direct one, the run of a tray and the
+// mirror, on numbers and byte slices.
 ghost use mathlib.Core.Path.{_≡_};
 ghost use Rattle.saved_tableau.specs.Layer.{layerNumber, layerLeaves};
 ghost use Rattle.saved_tableau.specs.Test.{testNumber};
+ghost use Rattle.look_call.specs.LookBytes.{lookBytes};
 ghost use Rattle.written_book.specs.Writer.{writeBook};
-ghost use Rattle.direct_run.specs.DirectBook.{directLeft, directBook};
+ghost use Rattle.direct_book.specs.DirectBook.{directLeft, directBook};
+ghost use Rattle.direct_book.specs.GoOn.{goOnBook};
 ghost use Rattle.frame_run.specs.FrameBook.{buffersOf, frameLeft, frameBook};
 ghost use Rattle.shots.specs.Shots.{trayBook};
 ghost use Rattle.mirror_book.specs.MirrorBook.{mirrorBook};
 use answer::Answer;
+use direct_book::DirectAnswer;
 use frame_run::FrameAnswer;
+use look_call::LookAnswer;
 use tray_run::TrayAnswer;
 
 // Lays the zero tableau of n qudits of dimension d, or refuses by 2, 3 or 8.
@@ -27,6 +31,14 @@ pub extern "C" fn cagvost_test(t: &[u8]) -> Answer
     ensures { λ r. ⌜ r ≡ record { number = testNumber (now (t .entry)); place = 0 } ⌝ }
 {
     tableau_calls::test(t)
+}
+
+// Looks at a qudit of a tableau: what its measurement would be, or its refusal by 8, 2, 3, 8, 9 or 13.
+#[no_mangle]
+pub extern "C" fn cagvost_look(t: &[u8], qudit: usize) -> LookAnswer
+    ensures { λ r. ⌜ r ≡ lookBytes (now (t .entry)) qudit ⌝ }
+{
+    look_call::look(t, qudit)
 }
 
 // Writes the book of d, n and three bodies, or refuses by 2 to 8.
@@ -47,11 +59,26 @@ pub extern "C" fn cagvost_write(
 
 // The direct run of a book from the lent tableau.
 #[no_mangle]
-pub extern "C" fn cagvost_direct_run(book: &[u8], t: &mut [u8], results: &mut [u8]) -> Answer
+pub extern "C" fn cagvost_direct_run(book: &[u8], t: &mut [u8], results: &mut [u8]) -> DirectAnswer
     ensures { λ r. ⌜ directLeft r (now (t .exit)) (now (results .exit))
         ≡ directBook (now (book .entry)) (now (t .entry)) (now (results .entry)) ⌝ }
 {
     direct_run::direct_run(book, t, results)
+}
+
+// The direct run of a book that goes on from a number, the first time from 0, for a count of operations.
+#[no_mangle]
+pub extern "C" fn cagvost_go_on(
+    book: &[u8],
+    t: &mut [u8],
+    results: &mut [u8],
+    from: usize,
+    count: usize,
+) -> DirectAnswer
+    ensures { λ r. ⌜ directLeft r (now (t .exit)) (now (results .exit))
+        ≡ goOnBook (now (book .entry)) from count (now (t .entry)) (now (results .entry)) ⌝ }
+{
+    direct_run::go_on(book, t, results, from, count)
 }
 
 // The frame run of a book from the lent tableau.

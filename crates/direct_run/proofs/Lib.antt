@@ -1,4 +1,3 @@
--- Worked cases, and what the proofs of several functions use.
-pub mod Cases
+-- What the proofs of several functions use.
 pub mod Answers
 pub mod Books

@@ -1,19 +1,48 @@
-// The direct run.
+// The direct run: whole, told to halt, and going on.
 ghost use mathlib.Core.Path.{_≡_};
-ghost use Prim.Native.Nat.{_*_, _≤_};
+ghost use Prim.Native.Nat.{_+_, _*_, _/_, _<_, _≤_};
 ghost use lib.ListN.{length};
 ghost use Rattle.validity.specs.Validity.{Valid};
 ghost use Rattle.saved_tableau.specs.Saved.{rowsIn, tableauBytes};
 ghost use Rattle.circuit.specs.Circuit.{measurementCount};
-ghost use Rattle.book.specs.Decoded.{operationsOf, errorsOf, Bodies};
-ghost use Rattle.runs.specs.Direct.{stateOf, directRun};
+ghost use Rattle.book_body.specs.Body.{answerOf, measuredOf, measuredBy};
+ghost use Rattle.book.specs.Book.{operationsEntry, partOf, readBook};
+ghost use Rattle.book.specs.Decoded.{operationsOf, errorsOf, opsIn, errorsIn, choicesIn, measurementsIn, Bodies};
+ghost use Rattle.runs.specs.Direct.{stateOf};
+ghost use Rattle.halts.specs.Halt.{finished, nextOf, directTo};
 ghost use Rattle.direct_step.specs.Inputs.{Inputs};
-ghost use Rattle.direct_run.specs.DirectBook.{directLeft, directBuffersFit, directBodies, directBook};
-use answer::Answer;
+ghost use Rattle.direct_book.specs.DirectBook.{behind, directLeft, directReached, directBuffersFit, directTested, directBook};
+ghost use Rattle.direct_book.specs.GoOn.{goOnBook};
+ghost use Rattle.direct_book.specs.Passes.{Passes};
+use book_body::Numbers;
 use book_body::Reading;
-use runs::Position;
+use direct_book::DirectAnswer;
 
-// All operations on the rows t, then the errors after them. The number of measurements.
+fn refused(number: usize, place: usize) -> DirectAnswer
+    ensures { λ r. ⌜ r ≡ record { number = number; place = place; next = 0 } ⌝ }
+{
+    DirectAnswer {
+        number,
+        place,
+        next: 0,
+    }
+}
+
+// The number after `count` further operations. Their sum may be too large, so the count is compared with what is left.
+fn next_of(operations: usize, from: usize, count: usize) -> usize
+    requires { ⌜ (from ≤ operations + 1)
+        × (operations < 4611686018427387904) ⌝ }
+    ensures { λ r. ⌜ r ≡ nextOf operations from count ⌝ }
+{
+    let left = operations + 1 - from;
+    if count < left {
+        from + count
+    } else {
+        operations + 1
+    }
+}
+
+// From number `from` to number `next` on the rows t: operations, each with the errors before it, and last the errors after all of them.
 fn run_by(
     t: &mut [u8],
     results: &mut [u8],
@@ -23,33 +52,34 @@ fn run_by(
     tables: &[u8],
     d: u8,
     n: usize,
-) -> usize
+    from: usize,
+    next: usize,
+)
     requires { ⌜ Inputs d n (now ops) (now errors) (now choices) (now tables)
         × (2 * measurementCount (operationsOf d n (now ops)) ≤ length (now results))
-        × Valid d n (now t) ⌝ }
-    ensures { λ r. ⌜ (stateOf (now (t .exit)) (now (results .exit))
-        ≡ directRun d n (operationsOf d n (now (ops .entry))) (errorsOf (now (errors .entry))) (now (choices .entry))
-        (stateOf (now (t .entry)) (now (results .entry))))
-        × (r ≡ measurementCount (operationsOf d n (now (ops .entry)))) ⌝ }
+        × Valid d n (now t)
+        × (from ≤ length (now ops) / 4)
+        × (from ≤ next)
+        × (next ≤ length (now ops) / 4 + 1) ⌝ }
+    ensures { λ _. ⌜ stateOf (now (t .exit)) (now (results .exit))
+        ≡ directTo d n (operationsOf d n (now (ops .entry))) (errorsOf (now (errors .entry))) (now (choices .entry)) from next
+        (stateOf (now (t .entry)) (now (results .entry))) ⌝ }
 {
     let count = ops.len() / 4;
-    let mut at = Position {
-        entry: 0,
-        measurements: 0,
-        choices: 0,
-    };
-    let mut k = 0;
-    while k < count {
+    let end = if next < count { next } else { count };
+    let mut at = cursors::position(ops, errors, from, d, n);
+    let mut k = from;
+    while k < end {
         at = direct_step::advance(t, results, ops, errors, choices, k, at, tables, d, n);
         k += 1;
     }
-    let from = at.entry;
-    direct_step::apply_errors(t, errors, from, k, tables, d, n);
-    at.measurements
+    if k < next {
+        let entry = at.entry;
+        direct_step::apply_errors(t, errors, entry, k, tables, d, n);
+    }
 }
 
-// The run of three bodies on a tableau, whose first two bytes stay, by tables that are made once for all its steps: 0 and the number
-// of measurements.
+// The same on a tableau, whose first two bytes stay, by tables that are made once for all stages. From a finished run nothing is done.
 fn run(
     t: &mut [u8],
     results: &mut [u8],
@@ -58,18 +88,37 @@ fn run(
     choices: &[u8],
     d: u8,
     n: usize,
-) -> Answer
+    from: usize,
+    next: usize,
+)
     requires { ⌜ Bodies d n (now ops) (now errors) (now choices)
         × (2 * measurementCount (operationsOf d n (now ops)) ≤ length (now results))
         × (tableauBytes n ≤ length (now t))
-        × Valid d n (rowsIn (now t)) ⌝ }
-    ensures { λ r. ⌜ directLeft r (now (t .exit)) (now (results .exit))
-        ≡ directBodies d n (now (ops .entry)) (now (errors .entry)) (now (choices .entry)) (now (t .entry)) (now (results .entry)) ⌝ }
+        × Valid d n (rowsIn (now t))
+        × (from ≤ next)
+        × (next ≤ length (now ops) / 4 + 1) ⌝ }
+    ensures { λ _. ⌜ stateOf (now (t .exit)) (now (results .exit))
+        ≡ behind (now (t .entry))
+        (directTo d n (operationsOf d n (now (ops .entry))) (errorsOf (now (errors .entry))) (now (choices .entry)) from next
+        (stateOf (rowsIn (now (t .entry))) (now (results .entry)))) ⌝ }
 {
+    if from == next {
+        return;
+    }
     let mut tables = [0u8; 1152];
     tables::make(&mut tables, d);
-    let place = run_by(&mut t[2..], results, ops, errors, choices, &tables, d, n);
-    Answer { number: 0, place }
+    run_by(
+        &mut t[2..],
+        results,
+        ops,
+        errors,
+        choices,
+        &tables,
+        d,
+        n,
+        from,
+        next,
+    );
 }
 
 // Whether each buffer is as long as it must be.
@@ -80,37 +129,107 @@ fn buffers_fit(t: &[u8], results: &[u8], measurements: usize, n: usize) -> bool
     (2 * n * (2 * n + 1) + 2 <= t.len()) & (measurements <= results.len() / 2)
 }
 
-// The direct run of a book from the lent tableau: refusals 1 to 7, then 8, then 9; or 0 and the number of measurements.
-pub fn direct_run(book: &[u8], t: &mut [u8], results: &mut [u8]) -> Answer
-    ensures { λ r. ⌜ directLeft r (now (t .exit)) (now (results .exit))
-        ≡ directBook (now (book .entry)) (now (t .entry)) (now (results .entry)) ⌝ }
+// 1 to 7, then 8, then 9; or the numbers of a book that may run on these buffers.
+fn tested(book: &[u8], t: &[u8], results: &[u8]) -> Reading
+    ensures { λ r. ⌜ (answerOf r
+        ≡ directTested (now (book .entry)) (now (t .entry)) (now (results .entry)) (readBook (now (book .entry))))
+        × (measuredOf r ≡ measuredBy (partOf (now (book .entry)) operationsEntry) (answerOf r)) ⌝ }
 {
     let reading = book::read(book);
     let numbers = match reading {
         Reading::Accepted(numbers) => numbers,
         Reading::Refused { number, place } => {
-            return Answer {
-                number: casts::byte_as_usize(number),
-                place,
-            };
+            return Reading::Refused { number, place };
         }
     };
     let d = numbers.d;
     let n = numbers.n;
     if !buffers_fit(t, results, numbers.measurements, n) {
-        return Answer {
+        return Reading::Refused {
             number: 8,
             place: 0,
         };
     }
     if !tableau_calls::is_valid_for(t, d, n) {
-        return Answer {
+        return Reading::Refused {
             number: 9,
             place: 0,
         };
     }
+    Reading::Accepted(numbers)
+}
+
+// The run of a tested book from number `from` to number `next`.
+fn reach(
+    book: &[u8],
+    t: &mut [u8],
+    results: &mut [u8],
+    numbers: Numbers,
+    from: usize,
+    next: usize,
+) -> DirectAnswer
+    requires { ⌜ Passes (now book) (now t) (now results) (numbers .d) (numbers .n) (numbers .operations) (numbers .errors) (numbers .choices)
+        × (numbers .measurements ≡ measurementsIn (now book) (numbers .d) (numbers .n))
+        × (from ≤ next)
+        × (next ≤ finished (length (opsIn (now book) (numbers .d) (numbers .n)))) ⌝ }
+    ensures { λ r. ⌜ directLeft r (now (t .exit)) (now (results .exit))
+        ≡ directReached (measurementsIn (now (book .entry)) (numbers .d) (numbers .n)) next (now (t .entry))
+        (directTo (numbers .d) (numbers .n) (opsIn (now (book .entry)) (numbers .d) (numbers .n)) (errorsIn (now (book .entry)))
+        (choicesIn (now (book .entry))) from next (stateOf (rowsIn (now (t .entry))) (now (results .entry)))) ⌝ }
+{
+    let d = numbers.d;
+    let n = numbers.n;
     let ops = book::operations(book);
     let errors = book::errors(book);
     let choices = book::choices(book);
-    run(t, results, ops, errors, choices, d, n)
+    run(t, results, ops, errors, choices, d, n, from, next);
+    DirectAnswer {
+        number: 0,
+        place: numbers.measurements,
+        next,
+    }
+}
+
+// Going on from a number for a count of further operations: refusals 1 to 7, then 8, then 9, then 13; or 0, the number of measurements
+// and the number of the next operation.
+pub fn go_on(
+    book: &[u8],
+    t: &mut [u8],
+    results: &mut [u8],
+    from: usize,
+    count: usize,
+) -> DirectAnswer
+    ensures { λ r. ⌜ directLeft r (now (t .exit)) (now (results .exit))
+        ≡ goOnBook (now (book .entry)) from count (now (t .entry)) (now (results .entry)) ⌝ }
+{
+    let reading = tested(book, t, results);
+    let numbers = match reading {
+        Reading::Accepted(numbers) => numbers,
+        Reading::Refused { number, place } => {
+            return refused(casts::byte_as_usize(number), place);
+        }
+    };
+    let operations = numbers.operations;
+    if operations + 1 < from {
+        return refused(13, 0);
+    }
+    let next = next_of(operations, from, count);
+    reach(book, t, results, numbers, from, next)
+}
+
+// The whole direct run of a book from the lent tableau: refusals 1 to 7, then 8, then 9; or 0, the number of measurements and that of
+// the operations plus one.
+pub fn direct_run(book: &[u8], t: &mut [u8], results: &mut [u8]) -> DirectAnswer
+    ensures { λ r. ⌜ directLeft r (now (t .exit)) (now (results .exit))
+        ≡ directBook (now (book .entry)) (now (t .entry)) (now (results .entry)) ⌝ }
+{
+    let reading = tested(book, t, results);
+    let numbers = match reading {
+        Reading::Accepted(numbers) => numbers,
+        Reading::Refused { number, place } => {
+            return refused(casts::byte_as_usize(number), place);
+        }
+    };
+    let finished = numbers.operations + 1;
+    reach(book, t, results, numbers, 0, finished)
 }

@@ -35,7 +35,8 @@ use Rattle.runs.specs.Frame.{noFrame, shiftRows}
 use Rattle.runs.specs.Raised.{finalFrame}
 use Rattle.run_laws.proofs.Books.{without-errors}
 use Rattle.run_laws.proofs.Sound.{run-keeps-valid}
-use Rattle.direct_run.specs.DirectBook.{directEnded, directBook}
+use Rattle.halts.specs.Halt.{finished}
+use Rattle.direct_book.specs.DirectBook.{directReached, directEnded, directBook}
 use Rattle.book_laws.proofs.Refusals.{accepted-mirrored}
 use Rattle.book_laws.proofs.Left.{direct-ended}
 use Rattle.book_laws.proofs.Clean.{no-errors}
@@ -146,11 +147,11 @@ module _ (s : List ℕ) {d n operations errors choices : ℕ} (e : readBook s �
         rw (opened t rows two, start .dimension, start .qudits)
         (valid-for (d ∷ n ∷ rows) (self-valid-exactly (d ∷ n ∷ rows) (omega (arith, rows-valid .room)) .1 saved) refl refl)
 
-    there : directBook s t results ≡ directEnded (measurementsIn s d n) t (directRun d n ops (errorsIn s) (choicesIn s) (stateOf (rowsIn t) results))
+    there : directBook s t results ≡ directEnded s t results d n
     there = direct-ended s t results e (start .room) (omega (arith, measures-none)) for
 
     back : directBook mirror after results'
-        ≡ directEnded (measurementCount (mirrored d ops)) after (directRun d n (mirrored d ops) [] [] (stateOf rows results'))
+        ≡ directReached (measurementCount (mirrored d ops)) (finished (length (mirrored d ops))) after (directRun d n (mirrored d ops) [] [] (stateOf rows results'))
     back =
         rw (reads, reads-no-errors, bodies .choices-back, rows-back t rows two) at
         (direct-ended mirror after results' accepts after-room (omega (arith, mirror-measures-none)) after-for)

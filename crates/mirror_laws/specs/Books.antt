@@ -13,7 +13,7 @@ use Rattle.written_book.specs.Writer.{WriteLeft}
 use Rattle.written_book.specs.Errorless.{errorless}
 use Rattle.runs.specs.Frame.{noFrame, shiftRows}
 use Rattle.runs.specs.Raised.{finalFrame}
-use Rattle.direct_run.specs.DirectBook.{DirectLeft, directBook}
+use Rattle.direct_book.specs.DirectBook.{DirectLeft, directBook}
 use Rattle.mirror_book.specs.Mirrored.{mirrored}
 use Rattle.mirror_book.specs.MirrorBook.{mirrorOf, mirrorBytes, firstMeasurement, mirrorBook}
 

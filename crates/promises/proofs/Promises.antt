@@ -18,12 +18,15 @@ use Rattle.written_book.specs.Writer.{Rewritten, FillsOnlyBook}
 use Rattle.written_book.specs.Errorless.{ErrorlessAccepted}
 use Rattle.tray.specs.Tray.{OnlyTray}
 use Rattle.run_laws.specs.Carrying.{StepKeepsValid, RunKeepsValid, FrameKeepsValid, ResetClears, RunsAgree, RunsAgreeFrom, FrameIsClean, CleanRows, CleanLists}
+use Rattle.halts.specs.Halt.{HaltedRun, WholeRun, GoesOn, GoingOnKeepsValid}
 use Rattle.shots.specs.Clean.{CleanServes}
 use Rattle.book_laws.specs.Agreement.{SecondAccepted, Demand3}
 use Rattle.book_laws.specs.Clean.{CleanExactly, WithoutErrors}
-use Rattle.book_laws.specs.LeavesValid.{LayerLeavesValid, DirectLeavesValid, FrameLeavesValid}
-use Rattle.book_laws.specs.Refusals.{NumbersListed, WriterNamesBody, LayerUnchanged, WriterUnchanged, DirectUnchanged, FrameUnchanged, TrayUnchanged, MirrorUnchanged}
+use Rattle.book_laws.specs.LeavesValid.{LayerLeavesValid, DirectLeavesValid, GoOnLeavesValid, FrameLeavesValid}
+use Rattle.book_laws.specs.Refusals.{NumbersListed, WriterNamesBody, LayerUnchanged, WriterUnchanged, DirectUnchanged, GoOnUnchanged, LookUntold, FrameUnchanged, TrayUnchanged, MirrorUnchanged}
 use Rattle.book_laws.specs.Tray.{ShotsAreFrameRuns, TrayKeepsRest, TrayCounts, OwnErrorsUnused}
+use Rattle.halt_laws.specs.Halting.{GoesOnBook, WholeBook, NothingDone, CallsReach, SingleCall, FinishedCalls, Demand3Halted}
+use Rattle.halt_laws.specs.Looking.{LookTells, CallsLook, LookForetells}
 use Rattle.mirror_laws.specs.Undone.{UndoingAllowed, RowUndone, RowsUndone}
 use Rattle.mirror_laws.specs.Lists.{ListsAccepted, ListsReturn, ListsCarry}
 use Rattle.mirror_laws.specs.Books.{MirrorAccepted, MirrorTwice, FillsMirror, MirrorReturns, MirrorCarries}
@@ -62,6 +65,12 @@ use Rattle.run_laws.proofs.Clean as clean
 use Rattle.run_laws.proofs.Buffers as buffers
 use Rattle.run_laws.proofs.Fold as fold
 use Rattle.run_laws.proofs.Verdict as rows-verdict
+use Rattle.halts.proofs.Goes as halted
+use Rattle.halts.proofs.Kept as halted-kept
+use Rattle.halt_laws.proofs.Calls as calls
+use Rattle.halt_laws.proofs.Demand3 as halted-whole
+use Rattle.halt_laws.proofs.Looks as looks
+use Rattle.halt_laws.proofs.Foretold as foretold
 use Rattle.shots.proofs.Clean as serves
 use Rattle.mirror_laws.proofs.Undone as undone
 use Rattle.mirror_laws.proofs.Lists as mirrored-lists
@@ -83,9 +92,17 @@ writer-names-body = refusals.writer-names-body
 pub layer-unchanged : LayerUnchanged
 layer-unchanged = refusals.layer-unchanged
 
--- A refusal of the direct run leaves tableau and results unchanged.
+-- A refusal of the direct run leaves tableau and results unchanged, and the number of the next operation is 0.
 pub direct-unchanged : DirectUnchanged
 direct-unchanged = refusals.direct-unchanged
+
+-- The same where a run goes on.
+pub go-on-unchanged : GoOnUnchanged
+go-on-unchanged = refusals.go-on-unchanged
+
+-- A look that is refused tells nothing.
+pub look-untold : LookUntold
+look-untold = refusals.look-untold
 
 -- A refusal of the frame run leaves all four buffers unchanged, and its verdict is 0.
 pub frame-unchanged : FrameUnchanged
@@ -306,6 +323,10 @@ step-keeps-valid = steps.step-keeps-valid
 pub run-keeps-valid : RunKeepsValid
 run-keeps-valid = steps.run-keeps-valid
 
+-- Over lists: so does going on, from any number for any count.
+pub going-on-keeps-valid : GoingOnKeepsValid
+going-on-keeps-valid = halted-kept.going-on-keeps-valid
+
 -- Over lists: so does the frame run, from any frame.
 pub frame-keeps-valid : FrameKeepsValid
 frame-keeps-valid = clean.frame-keeps-valid
@@ -321,6 +342,10 @@ layer-leaves-valid = left.layer-leaves-valid
 -- What a direct run of a book leaves passes the tableau test, with the same two bytes before its rows.
 pub direct-leaves-valid : DirectLeavesValid
 direct-leaves-valid = left.direct-leaves-valid
+
+-- The same of a run that goes on.
+pub go-on-leaves-valid : GoOnLeavesValid
+go-on-leaves-valid = left.go-on-leaves-valid
 
 -- What a frame run of a book leaves passes the tableau test, with the same two bytes before its rows.
 pub frame-leaves-valid : FrameLeavesValid
@@ -346,6 +371,55 @@ one-member = certain.one-member
 pub collapse-generates : CollapseGenerates
 collapse-generates = generates.collapse-generates
 
+-- A measurement of the qudit looked at would be as the look tells: free with the choice, or certain with that outcome and no row changed.
+pub look-tells : LookTells
+look-tells = looks.look-tells
+
+-- For whole books: after any calls a look tells of the rows that the run has reached; a qudit not below n is refused by 13.
+pub calls-look : CallsLook
+calls-look = calls.calls-look
+
+-- For whole books: the next operation of a halted run, if it measures that qudit and no error is placed before it, is as the look tells.
+pub look-foretells : LookForetells
+look-foretells = foretold.look-foretells
+
+-- Over lists: a run told to halt after a count of operations has made as many steps, and no error placed before the next is applied.
+pub halted-run : HaltedRun
+halted-run = halted.halted-run
+
+-- Over lists: a count larger than the operations is the direct run.
+pub whole-run : WholeRun
+whole-run = halted.whole-run
+
+-- Over lists: halting and going on is going on at once, from any number.
+pub goes-on : GoesOn
+goes-on = halted.goes-on
+
+-- For whole books: halting and going on is going on at once, from any number.
+pub goes-on-book : GoesOnBook
+goes-on-book = calls.goes-on-book
+
+-- For whole books, refusals included: told to halt after more operations than a book may have, a run is the direct run.
+pub whole-book : WholeBook
+whole-book = calls.whole-book
+
+-- For whole books: from a finished run, or for a count of 0, nothing is done.
+pub nothing-done : NothingDone
+nothing-done = calls.nothing-done
+
+-- For whole books: any list of calls and looks from the start is refused nowhere; it ends with the number that it reaches, and leaves in
+-- both buffers the stages up to there.
+pub calls-reach : CallsReach
+calls-reach = calls.calls-reach
+
+-- For whole books: it leaves what the single call leaves that reaches its number, in both buffers and all three numbers.
+pub single-call : SingleCall
+single-call = calls.single-call
+
+-- For whole books: one that has finished leaves what the direct run leaves.
+pub finished-calls : FinishedCalls
+finished-calls = calls.finished-calls
+
 -- Demand 3: a Weyl error, wherever it strikes, may be carried to the end.
 
 -- For every accepted book, valid start tableau whose two bytes are the book's, and buffers long enough, the direct run of the second book
@@ -353,6 +427,10 @@ collapse-generates = generates.collapse-generates
 -- byte of the tableau, both leading bytes included.
 pub demand3 : Demand3
 demand3 = whole.demand3
+
+-- The same with a direct run that has finished, whatever looks and halts it had.
+pub demand3-halted : Demand3Halted
+demand3-halted = halted-whole.demand3-halted
 
 -- The second book is accepted, and differs in its choices alone, each raised.
 pub second-accepted : SecondAccepted

@@ -67,7 +67,7 @@ module _ (d n : ℕ) (dim : Dimension d) (ops : List Operation) (errors : List W
   kind-valid k l st ok (resets q) e = reset-valid k q l e (st .rows) ok
   kind-valid k l st ok (corrects t m) e = minus-valid t _ (target-in ac k t m l e) (st .rows) ok
 
-  place-valid : (k : ℕ) (st : State) → Valid d n (st .rows) → Valid d n (directErrors d n ops errors choices k st .rows)
+  pub place-valid : (k : ℕ) (st : State) → Valid d n (st .rows) → Valid d n (directErrors d n ops errors choices k st .rows)
   unfolding directErrors
   place-valid k st ok = errors-valid k (st .rows) ok (length errors) (le-refl (length errors))
 

@@ -160,10 +160,14 @@ module _ (d n : ℕ) (ops : List Operation) (errors : List WeylError) (choices :
   direct-kind c j st op (resets q) = refl
   direct-kind c j st op (corrects t m) = refl
 
+  pub step-results : (k : ℕ) (st : State) → length (directStep d n ops errors choices k st .results) ≡ length (st .results)
+  unfolding directStep directErrors
+  step-results k st = direct-kind (chosen ops k) (measured ops k) _ (opAt ops k) (kind (opAt ops k))
+
   pub steps-results : (st : State) (count : ℕ) → length (stepsFrom (directStep d n ops errors choices) 0 st count .results) ≡ length (st .results)
-  unfolding stepsFrom directStep directErrors
+  unfolding stepsFrom
   steps-results st zero = refl
-  steps-results st (suc count) = direct-kind (chosen ops (0 + count)) (measured ops (0 + count)) _ (opAt ops (0 + count)) (kind (opAt ops (0 + count))) ∙ steps-results st count
+  steps-results st (suc count) = step-results (0 + count) _ ∙ steps-results st count
 
   pub direct-results : (st : State) → length (directRun d n ops errors choices st .results) ≡ length (st .results)
   unfolding directRun directErrors

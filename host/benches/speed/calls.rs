@@ -1,7 +1,7 @@
 //! The calls that are timed: each by Cagvost, by the tuned Rust and by the plain Rust.
 
 use crate::common::frames::Buffers;
-use crate::common::{UNWRITTEN, plain, slices};
+use crate::common::{UNWRITTEN, halts, plain, slices};
 use crate::tuned::{self, Even, Phases, Specified};
 use cagvost::Refusal;
 use cagvost::book::Book;
@@ -16,13 +16,15 @@ pub struct Lent {
 }
 
 /// A book, also by its bodies, and what is lent with it. The writer takes the sizes and the bodies,
-/// the tableau test the tableau alone, which names its sizes.
+/// the tableau test and a look the tableau alone, which names its sizes.
 pub struct Job {
     pub d: usize,
     pub n: usize,
     pub bodies: [Vec<u8>; 3],
     pub book: Vec<u8>,
     pub before: Lent,
+    /// The number that a run goes on from.
+    pub from: usize,
 }
 
 impl Job {
@@ -42,11 +44,18 @@ impl Job {
             bodies: book.bodies(),
             book: bytes,
             before: Lent { run, written },
+            from: 0,
         }
+    }
+
+    /// How many operations the book has.
+    pub fn operations(&self) -> usize {
+        self.bodies[0].len() / 4
     }
 }
 
-/// A number, its place and, from the frame run, the verdict.
+/// A number, its place and, from a direct run, the number of the next operation, from the frame run
+/// the verdict.
 pub type Returned = (usize, usize, usize);
 
 pub type Call = fn(&Job, &mut Lent) -> Returned;
@@ -70,13 +79,10 @@ pub const TEST: Columns<3> = [
 pub const DIRECT: Columns<4> = [
     |job, Lent { run, .. }| {
         let returned = cagvost::direct_run(&job.book, &mut run.tableau, &mut run.results);
-        numbers(returned)
+        halts::reached(returned)
     },
     tuned_direct::<Specified>,
-    |job, Lent { run, .. }| {
-        let returned = plain::direct_run(&job.book, &mut run.tableau, &mut run.results);
-        widen(returned)
-    },
+    |job, Lent { run, .. }| plain::direct_run(&job.book, &mut run.tableau, &mut run.results),
     tuned_direct::<Even>,
 ];
 
@@ -88,8 +94,7 @@ pub const FRAME: Columns<4> = [
 ];
 
 fn tuned_direct<P: Phases>(job: &Job, Lent { run, .. }: &mut Lent) -> Returned {
-    let returned = tuned::direct_run::<P>(&job.book, &mut run.tableau, &mut run.results);
-    widen(returned)
+    tuned::direct_run::<P>(&job.book, &mut run.tableau, &mut run.results)
 }
 
 fn tuned_frame<P: Phases>(job: &Job, Lent { run, .. }: &mut Lent) -> Returned {

@@ -471,7 +471,8 @@ fn start<'a>(
     }
     let (mut rows, modulo) = (tableau[ROWS..].to_vec(), Modulo::new(book.d));
     book.errors = &[];
-    run_rows::<Specified>(&book, &mut rows, &mut results, &modulo);
+    let stages = 0..book.finished();
+    run_rows::<Specified>(&book, stages, &mut rows, &mut results, &modulo);
     Ok(Circuit {
         book,
         tray,

@@ -1,7 +1,7 @@
 //! Times the package's calls beside the same calls in Rust: `cargo bench` in this package,
 //! `cargo bench -- quick` for few sizes and no trays, `cargo bench -- trays` for the tray runs alone,
-//! `cargo bench -- mirrors` for the mirrors alone, or `cargo bench -- share` for drawing errors and
-//! running them.
+//! `cargo bench -- mirrors` for the mirrors alone, `cargo bench -- halts` for runs that halt and for
+//! looks, or `cargo bench -- share` for drawing errors and running them.
 //!
 //! The columns are the package, (b) the fastest safe Rust that we could write (`tuned.rs`, and
 //! `lanes.rs` for trays), for runs the same with even phases, which shows what it costs to keep the
@@ -13,6 +13,7 @@ mod calls;
 #[allow(dead_code)] // not all of it is timed
 #[path = "../../tests/common/mod.rs"]
 mod common;
+mod halts;
 mod lanes;
 mod powers;
 mod resets;
@@ -65,8 +66,9 @@ fn main() {
         return;
     }
     let begin = Instant::now();
-    let [quick, trays, mirrors, share] = ["quick", "trays", "mirrors", "share"].map(is_given);
-    let all = !quick && !trays && !mirrors && !share;
+    let parts = ["quick", "trays", "mirrors", "halts", "share"];
+    let [quick, trays, mirrors, halts, share] = parts.map(is_given);
+    let all = !parts.into_iter().any(is_given);
     preface();
     if quick || all {
         runs(if quick { &FEW } else { &ALL });
@@ -78,6 +80,9 @@ fn main() {
     }
     if mirrors || all {
         mirroring();
+    }
+    if halts || all {
+        halts::halts(&DIMENSIONS);
     }
     if trays || all {
         trays::trays();

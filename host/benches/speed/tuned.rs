@@ -28,6 +28,8 @@ mod specified;
 
 use cagvost::book::MAX_OPERATIONS;
 use std::array;
+use std::ops::Range;
+use std::slice::Iter;
 
 pub use even::Even;
 pub use specified::Specified;
@@ -389,6 +391,16 @@ fn power<P: Phases>(rows: &mut [u8], n: usize, entry: &[u8], m: &Modulo) {
     }
 }
 
+/// A gate or its power on every row.
+#[inline(always)]
+fn gate_or_power<P: Phases>(rows: &mut [u8], n: usize, entry: &[u8], m: &Modulo) {
+    if is_power(entry) {
+        power::<P>(rows, n, entry, m);
+    } else {
+        gate::<P>(rows, n, entry, m);
+    }
+}
+
 /// A gate that is applied once, on a frame, which has no phase.
 fn gate_frame(frame: &mut [u8], n: usize, entry: &[u8], m: &Modulo) {
     let (x, z) = frame.split_at_mut(n);
@@ -499,6 +511,13 @@ impl Pivot {
     }
 }
 
+/// The stabilizer that makes a measurement of q free, if there is one.
+fn pivot_of(rows: &[u8], n: usize, q: usize) -> Option<usize> {
+    let w = 2 * n + 1;
+    let mut stabilizers = rows[n * w..].chunks_exact(w);
+    stabilizers.position(|row| row[q] != 0)
+}
+
 /// A measurement: the outcome and the mark.
 fn measure<P: Phases>(
     rows: &mut [u8],
@@ -507,9 +526,7 @@ fn measure<P: Phases>(
     m: &Modulo,
     pivot: &mut Pivot,
 ) -> [u8; 2] {
-    let w = 2 * n + 1;
-    let mut stabilizers = rows[n * w..].chunks_exact(w);
-    let Some(k) = stabilizers.position(|row| row[q] != 0) else {
+    let Some(k) = pivot_of(rows, n, q) else {
         return [P::certain(rows, n, q, m), 0];
     };
     collapse::<P>(rows, n, (q, k, choice), m, pivot);
@@ -576,6 +593,13 @@ pub struct Book<'a> {
     pub choices: &'a [u8],
     /// How many results there are. Of the choices, some may be resets'.
     pub measurements: usize,
+}
+
+impl Book<'_> {
+    /// The number of a finished run.
+    pub fn finished(&self) -> usize {
+        self.operations.len() / 4 + 1
+    }
 }
 
 /// Refusals 2 and 3.
@@ -771,6 +795,26 @@ pub fn test(tableau: &[u8]) -> Returned {
     }
 }
 
+/// The look at a qudit of a tableau: 0, then 1 and 0 for free, or 0 and the outcome for certain.
+pub fn look(tableau: &[u8], qudit: usize) -> (usize, usize, usize) {
+    let (number, _) = test(tableau);
+    if number != 0 {
+        return (number, 0, 0);
+    }
+    let (d, n) = (tableau[0], usize::from(tableau[1]));
+    if qudit >= n {
+        return (13, 0, 0);
+    }
+    let rows = &tableau[ROWS..tableau_len(n)];
+    match pivot_of(rows, n, qudit) {
+        Some(_) => (0, 1, 0),
+        None => {
+            let outcome = Specified::certain(rows, n, qudit, &Modulo::new(d));
+            (0, 0, outcome.into())
+        }
+    }
+}
+
 /// Whether a tableau of the length that the book's n needs is the book's and valid.
 pub fn is_valid_for(book: &Book, tableau: &[u8]) -> bool {
     let (sizes, rows) = tableau.split_at(ROWS);
@@ -933,72 +977,120 @@ fn start<'a, 'b>(
     Ok((book, tableau))
 }
 
-/// The direct run: each error is applied to every row at its place.
-pub fn direct_run<P: Phases>(book: &[u8], tableau: &mut [u8], results: &mut [u8]) -> Returned {
+/// The direct run: each error is applied to every row at its place. The third number is that of a
+/// finished run.
+pub fn direct_run<P: Phases>(
+    book: &[u8],
+    tableau: &mut [u8],
+    results: &mut [u8],
+) -> (usize, usize, usize) {
+    go_on::<P>(book, tableau, results, 0, usize::MAX)
+}
+
+/// The direct run from operation `from` on, for so many operations. The third number is that of the
+/// next one.
+pub fn go_on<P: Phases>(
+    book: &[u8],
+    tableau: &mut [u8],
+    results: &mut [u8],
+    from: usize,
+    count: usize,
+) -> (usize, usize, usize) {
     let (book, tableau) = match start(book, tableau, results) {
         Ok(started) => started,
-        Err(returned) => return returned,
+        Err((number, place)) => return (number, place, 0),
     };
     if !is_valid_for(&book, tableau) {
-        return (9, 0);
+        return (9, 0, 0);
     }
-    let modulo = Modulo::new(book.d);
-    let rows = &mut tableau[ROWS..];
-    (0, run_rows::<P>(&book, rows, results, &modulo))
+    if from > book.finished() {
+        return (13, 0, 0);
+    }
+    let next = from.saturating_add(count).min(book.finished());
+    if from < next {
+        let modulo = Modulo::new(book.d);
+        let rows = &mut tableau[ROWS..];
+        run_rows::<P>(&book, from..next, rows, results, &modulo);
+    }
+    (0, book.measurements, next)
 }
 
-/// A direct run on the rows of a valid tableau. How many measurements there were.
+/// These stages of a direct run on the rows of a valid tableau.
 pub fn run_rows<P: Phases>(
     book: &Book,
+    stages: Range<usize>,
     rows: &mut [u8],
     results: &mut [u8],
     modulo: &Modulo,
-) -> usize {
+) {
     P::enter(rows, book.n, modulo);
-    let measurements = apply_errors::<P>(book, rows, results, modulo);
+    apply_errors::<P>(book, stages, rows, results, modulo);
     P::leave(rows, book.n, modulo);
-    measurements
 }
 
-/// All operations and errors of a direct run. How many measurements there were.
+/// Where a run stands: the errors and choices that are not spent, and how many results are done.
+struct Standing<'a> {
+    errors: &'a [u8],
+    choices: Iter<'a, u8>,
+    done: usize,
+}
+
+impl<'a> Standing<'a> {
+    /// Before the operation of this number.
+    fn new(book: &Book<'a>, number: usize) -> Standing<'a> {
+        let earlier = &book.operations[..4 * number];
+        let (entries, _) = book.errors.as_chunks::<5>();
+        let spent = entries.partition_point(|error| two_bytes(error, 0) < number);
+        Standing {
+            errors: &book.errors[5 * spent..],
+            choices: book.choices[count::<MEASURE_OR_RESET>(earlier)..].iter(),
+            done: count::<MEASURE>(earlier),
+        }
+    }
+}
+
+/// The operations of these stages, each behind the errors of its place, and behind the last one of
+/// all the errors that are left.
 fn apply_errors<P: Phases>(
     book: &Book,
+    stages: Range<usize>,
     rows: &mut [u8],
     results: &mut [u8],
     modulo: &Modulo,
-) -> usize {
-    let (n, mut errors, mut done) = (book.n, book.errors, 0);
-    let (mut choices, mut pivot) = (book.choices.iter(), Pivot::new());
-    for (k, entry) in book.operations.chunks_exact(4).enumerate() {
-        while let Some(error) = take_error(&mut errors, k) {
+) {
+    let (n, end) = (book.n, stages.end.min(book.finished() - 1));
+    let mut at = Standing::new(book, stages.start);
+    let mut pivot = Pivot::new();
+    let entries = book.operations[4 * stages.start..4 * end].chunks_exact(4);
+    for (k, entry) in (stages.start..).zip(entries) {
+        while let Some(error) = take_error(&mut at.errors, k) {
             apply_error(rows, n, error, modulo);
         }
-        if is_power(entry) {
-            power::<P>(rows, n, entry, modulo);
-            continue;
-        }
         if entry[0] < 6 {
-            gate::<P>(rows, n, entry, modulo);
+            gate_or_power::<P>(rows, n, entry, modulo);
             continue;
         }
         let q = usize::from(entry[1]);
         if entry[0] == 8 {
-            lower(rows, n, (q, results[2 * two_bytes(entry, 2)]), modulo);
+            // What is lent may be any byte.
+            let by = modulo.reduce(results[2 * two_bytes(entry, 2)].into());
+            lower(rows, n, (q, by), modulo);
             continue;
         }
-        let measured = (q, next(&mut choices));
+        let measured = (q, next(&mut at.choices));
         let result = measure::<P>(rows, n, measured, modulo, &mut pivot);
         if entry[0] == 6 {
-            results[2 * done..2 * done + 2].copy_from_slice(&result);
-            done += 1;
+            results[2 * at.done..2 * at.done + 2].copy_from_slice(&result);
+            at.done += 1;
         } else {
             lower(rows, n, (q, result[0]), modulo);
         }
     }
-    for error in errors.chunks_exact(5) {
-        apply_error(rows, n, error, modulo);
+    if stages.end == book.finished() {
+        for error in at.errors.chunks_exact(5) {
+            apply_error(rows, n, error, modulo);
+        }
     }
-    done
 }
 
 /// The next choice of a good book.
@@ -1081,11 +1173,10 @@ fn carry_along<P: Phases>(
 /// A gate or its power on the rows and on the frame.
 #[inline(always)]
 fn gate_both<P: Phases>((rows, frame): (&mut [u8], &mut [u8]), n: usize, entry: &[u8], m: &Modulo) {
+    gate_or_power::<P>(rows, n, entry, m);
     if is_power(entry) {
-        power::<P>(rows, n, entry, m);
         power_frame(frame, n, entry, m);
     } else {
-        gate::<P>(rows, n, entry, m);
         gate_frame(frame, n, entry, m);
     }
 }

@@ -2,6 +2,7 @@
 
 pub mod dense;
 pub mod frames;
+pub mod halts;
 pub mod plain;
 pub mod trays;
 
@@ -474,11 +475,8 @@ pub fn run_both(book: &[u8], tableau: &[u8], results: &[u8]) -> Run {
         (tableau.to_vec(), results.to_vec()),
         (tableau.to_vec(), results.to_vec()),
     );
-    let answer = returned(cagvost::direct_run(
-        &lent,
-        &mut by_library.0,
-        &mut by_library.1,
-    ));
+    let run = cagvost::direct_run(&lent, &mut by_library.0, &mut by_library.1);
+    let answer = halts::reached(run);
     let expected = plain::direct_run(book, &mut by_plain.0, &mut by_plain.1);
     assert_eq!(answer, expected, "numbers of the run of {book:02x?}");
     assert!(lent == book, "the book was written: {book:02x?}");
@@ -491,7 +489,7 @@ pub fn run_both(book: &[u8], tableau: &[u8], results: &[u8]) -> Run {
         is_still_valid(book, &by_library.0);
     }
     Run {
-        returned: answer,
+        returned: (answer.0, answer.1),
         tableau: by_library.0,
         results: by_library.1,
     }

@@ -2,6 +2,8 @@
 //!
 //! It uses nothing of the package, so that no fault of the package can hide in both.
 
+use std::ops::Range;
+
 /// A returned number and its place.
 pub type Returned = (usize, usize);
 
@@ -399,8 +401,7 @@ pub struct Book {
 impl Book {
     /// How many results there are: those of code 6.
     pub fn measurements(&self) -> usize {
-        let measures = |op: &&Op| matches!(op, Op::Measure(_));
-        self.operations.iter().filter(measures).count()
+        count_results(&self.operations)
     }
 
     /// The errors of place k, in the order of their entries. Places never fall.
@@ -409,6 +410,12 @@ impl Book {
         let rest = self.errors[first..].iter().copied();
         rest.take_while(move |e| e.place == k)
     }
+}
+
+/// How many results these operations give: one for each of code 6.
+fn count_results(operations: &[Op]) -> usize {
+    let gives_one = |op: &&Op| matches!(op, Op::Measure(_));
+    operations.iter().filter(gives_one).count()
 }
 
 /// How many choices these operations take: one for each of the codes 6 and 7.
@@ -650,30 +657,51 @@ fn may_start(book: &Book, tableau: &[u8]) -> bool {
     is_named && is_valid(book.d, book.n, &tableau[ROWS..])
 }
 
-/// The direct run: each error is applied to every row at its place.
-pub fn direct_run(book: &[u8], tableau: &mut [u8], results: &mut [u8]) -> Returned {
+/// The direct run: each error is applied to every row at its place. The third number is that of a
+/// finished run.
+pub fn direct_run(book: &[u8], tableau: &mut [u8], results: &mut [u8]) -> (usize, usize, usize) {
+    go_on(book, tableau, results, 0, usize::MAX)
+}
+
+/// The direct run from operation `from` on, for so many operations. The third number is that of the
+/// next one.
+pub fn go_on(
+    book: &[u8],
+    tableau: &mut [u8],
+    results: &mut [u8],
+    from: usize,
+    count: usize,
+) -> (usize, usize, usize) {
     let book = match read(book) {
         Ok(book) => book,
-        Err(returned) => return returned,
+        Err((number, place)) => return (number, place, 0),
     };
     let n = book.n;
     if tableau.len() < tableau_len(n) || results.len() < 2 * book.measurements() {
-        return (8, 0);
+        return (8, 0, 0);
     }
     if !may_start(&book, tableau) {
-        return (9, 0);
+        return (9, 0, 0);
     }
+    let finished = book.operations.len() + 1;
+    if from > finished {
+        return (13, 0, 0);
+    }
+    let next = from.saturating_add(count).min(finished);
     let mut rows = rows_of(n, &tableau[ROWS..]);
-    strike_all(&book, &mut rows, results);
+    strike_from(&book, from..next, &mut rows, results);
     tableau[ROWS..tableau_len(n)].copy_from_slice(&bytes_of(&rows));
-    (0, book.measurements())
+    (0, book.measurements(), next)
 }
 
-/// All operations and errors of a direct run.
-fn strike_all(book: &Book, rows: &mut [Row], results: &mut [u8]) {
+/// These operations of a direct run, each with the errors of its place before it. Behind the last one
+/// there is a place for errors alone. What earlier operations have taken and given is counted.
+fn strike_from(book: &Book, numbers: Range<usize>, rows: &mut [Row], results: &mut [u8]) {
     let (d, n) = (book.d, book.n);
-    let (mut choices, mut done) = (book.choices.iter(), 0);
-    for k in 0..=book.operations.len() {
+    let earlier = &book.operations[..numbers.start.min(book.operations.len())];
+    let mut choices = book.choices[count_choices(earlier)..].iter();
+    let mut done = count_results(earlier);
+    for k in numbers {
         for error in book.errors_at(k) {
             rows.iter_mut().for_each(|row| apply_error(d, error, row));
         }
@@ -687,6 +715,7 @@ fn strike_all(book: &Book, rows: &mut [Row], results: &mut [u8]) {
                 done += 1;
             }
             Op::Reset(q) => reset(d, n, rows, q, next(&mut choices)),
+            // By whatever is lent there, also if it is no outcome: `apply_error` takes it modulo d.
             Op::Correct(t, m) => lower(d, rows, t, results[2 * m].into()),
             _ => rows.iter_mut().for_each(|row| gate(d, op, row)),
         }
@@ -696,6 +725,22 @@ fn strike_all(book: &Book, rows: &mut [Row], results: &mut [u8]) {
 /// The next choice of an accepted book.
 fn next<'a>(choices: &mut impl Iterator<Item = &'a i64>) -> i64 {
     *choices.next().expect("as many choices as are taken")
+}
+
+/// The look at a qudit of a tableau: 0, then 1 and 0 for free, or 0 and the outcome for certain.
+pub fn look_call(tableau: &[u8], qudit: usize) -> (usize, usize, usize) {
+    let (number, _) = test(tableau);
+    if number != 0 {
+        return (number, 0, 0);
+    }
+    let (d, n) = (i64::from(tableau[0]), usize::from(tableau[1]));
+    if qudit >= n {
+        return (13, 0, 0);
+    }
+    match look(d, n, &rows_of(n, &tableau[ROWS..]), qudit) {
+        Look::Free(_) => (0, 1, 0),
+        Look::Certain(outcome) => (0, 0, outcome as usize),
+    }
 }
 
 /// The frame run: errors change the frame alone, and the rows' phases are shifted at the end. The

@@ -49,7 +49,7 @@ usage: cagvost COMMAND ..
 
 pub const RUN: &str = concat!(
     "\
-usage: cagvost run CIRCUIT [--direct] [--state]
+usage: cagvost run CIRCUIT [--direct] [--state] [--halt K] [--look Q]
 
 Runs the circuit from the zero tableau, where every qudit is at level 0, with the errors that it
 names, and prints: dimension, qudits, operations and errors; for each measurement its number, qudit,
@@ -60,6 +60,13 @@ errors have not changed the final state.
   --direct    apply the errors to the rows where they strike, with the choices as they are; then
               there are no shifts and no verdict
   --state     print the stabilizers of the final state too, as in 'stabilizer 0 ω^2 X0 Z1^2'
+  --halt K    halt a direct run after K operations, and print what was measured until then and
+              where it stands. Operations are counted from 0: number K comes next. Errors before it
+              are not yet applied; a K larger than there are operations finishes the run. --state
+              prints the stabilizers there.
+  --look Q    print what a measurement of qudit Q would be where a direct run stands, halted or at
+              its end: 'look qudit 3 free' or 'look qudit 3 certain 2'. The state is not changed.
+              '0,3' names two qudits, 'all' each of them.
 
 ",
     circuits!(),

@@ -52,7 +52,7 @@ const COMMANDS: [Command; 7] = [
     Command {
         name: "run",
         help: help::RUN,
-        values: &[],
+        values: &["--halt", "--look"],
         flags: &["--direct", "--state"],
         work: run::run,
     },

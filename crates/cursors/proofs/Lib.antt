@@ -1,0 +1,2 @@
+-- What the cursors of a number say of a run.
+pub mod Cursors

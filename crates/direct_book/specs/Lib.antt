@@ -1,0 +1,3 @@
+pub mod DirectBook
+pub mod GoOn
+pub mod Passes

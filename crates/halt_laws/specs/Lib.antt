@@ -1,0 +1,2 @@
+pub mod Halting
+pub mod Looking
