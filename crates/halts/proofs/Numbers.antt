@@ -1,4 +1,5 @@
--- The number that a count of operations reaches: the smaller of the two that the definition names.
+-- The number that a count of operations reaches: the smaller of the two that the definition names. The worked runs are named so that they
+-- are checked first.
 -- Assumes nothing.
 use mathlib.Core.Path.{_≡_, refl, sym, ap, _∙_}
 use mathlib.Core.Bool.{Bool, true, false, cond}
@@ -8,6 +9,7 @@ use native.Mathlib.Omega.{arith}
 use lib.Dec.{ltb}
 use borrow.Author.Tests.{lt-ltb, le-ltb, ltb-true, ltb-false}
 use Rattle.halts.specs.Halt.{finished, nextOf, Action, goOn, lookAt, reaches}
+use Rattle.halts.proofs.Worked
 
 module _ (operations from count : ℕ) where
   pub next-halted : from + count ≤ operations → nextOf operations from count ≡ from + count

@@ -1,4 +1,4 @@
--- The stages of a run: steps, then the errors after all operations.
+-- The stages of a run: steps, then the errors after all operations. The worked runs are named so that they are checked first.
 -- Assumes nothing.
 use mathlib.Core.Path.{_≡_, refl, ap, _∙_}
 use mathlib.Core.List.{List}
@@ -12,6 +12,7 @@ use Rattle.operation.specs.declared.WeylError.{WeylError}
 use Rattle.runs.specs.Run.{stepsFrom}
 use Rattle.runs.specs.Direct.{State, directErrors, directStep, directRun}
 use Rattle.halts.specs.Halt.{directStage}
+use Rattle.halts.proofs.Worked
 
 module _ (d n : ℕ) (ops : List Operation) (errors : List WeylError) (choices : List ℕ) where
   pub stage-step : (k : ℕ) (st : State) → k < length ops → directStage d n ops errors choices k st ≡ directStep d n ops errors choices k st

@@ -1,4 +1,4 @@
--- A tableau that passes the tests of a look.
+-- A tableau that passes the tests of a look. The worked cases are named so that they are checked first.
 -- Assumes nothing.
 use mathlib.Core.Path.{_≡_}
 use mathlib.Core.Bool.{true}
@@ -15,6 +15,7 @@ use Rattle.saved_tableau.specs.Test.{testNumber}
 use Rattle.saved_tableau_laws.proofs.Exactly.{test-exactly, self-valid-exactly}
 use Rattle.measurement.specs.Look.{look}
 use Rattle.look_call.specs.LookBytes.{told, lookRefused, lookBytes}
+use Rattle.look_call.proofs.Cases
 
 pub record PassesTest (t : List ℕ) : Type 0 where
   pub dimension : listed (dimensionIn t) ≡ true

@@ -45,7 +45,7 @@ position-requires c κs =
     let s = c .before .before .before .before .before .before .before in
     let many = op-count (s .args .d) (s .args .n) (now (s .args .ops)) in
     let lists = s .pre .0 .lists in
-    (s .pre .3, λ i l. lists .operations i (omega (arith, many, s .pre .3)), lists .errors-in-order)
+    (omega (arith, s .pre .3), λ i l. lists .operations i (omega (arith, many, s .pre .3)), lists .errors-in-order)
 
 loop-holds : tie.Need-loop-holds Inv-loop μ-loop
 loop-holds c =
