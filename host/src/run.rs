@@ -132,14 +132,14 @@ impl Run {
     /// ```
     /// use cagvost::{Book, Simulation};
     ///
-    /// let book: Book = "qudits 1 dimension 3\nfourier 0\nerror 0 z\nphase 0".parse()?;
+    /// let book: Book = "qudits 1 dimension 3\nfourier 0\nerror 0 z\nfourier 0".parse()?;
     /// let mut run = Simulation::new(&book)?.start();
     /// let mut stabilizers = vec![run.tableau().stabilizer(0).to_string()];
     /// while !run.is_finished() {
     ///     run.advance(1);
     ///     stabilizers.push(run.tableau().stabilizer(0).to_string());
     /// }
-    /// assert_eq!(stabilizers, ["Z0", "X0^2", "X0^2 Z0^2", "X0^2 Z0^2"]);
+    /// assert_eq!(stabilizers, ["Z0", "X0^2", "ω^2 Z0^2", "ω^2 Z0^2"]);
     /// # Ok::<(), Box<dyn std::error::Error>>(())
     /// ```
     pub fn tableau(&self) -> &Tableau {

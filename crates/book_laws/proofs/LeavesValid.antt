@@ -32,7 +32,7 @@ use Rattle.run_laws.proofs.Clean.{frame-keeps-valid}
 use Rattle.halts.specs.Halt.{finished, directFrom}
 use Rattle.halts.proofs.Kept.{going-on-keeps-valid}
 use Rattle.direct_book.specs.DirectBook.{DirectLeft, directEnded, directBook}
-use Rattle.direct_book.specs.GoOn.{goneOn, goOnBook}
+use Rattle.direct_book.specs.GoOn.{goOnReached, goOnBook}
 use Rattle.direct_book.proofs.Tested.{left-cases, no-success}
 use Rattle.frame_run.specs.FrameBook.{FrameLeft, frameBuffersFit, frameByAnswer, frameBook}
 use Rattle.book_laws.specs.LeavesValid.{StillPasses, LayerLeavesValid, DirectLeavesValid, GoOnLeavesValid, FrameLeavesValid}
@@ -97,7 +97,7 @@ direct-leaves-valid s t results =
 pub go-on-leaves-valid : GoOnLeavesValid
 unfolding goOnBook
 go-on-leaves-valid s from count t results =
-    left-cases s t results P (goneOn s from count t results)
+    left-cases s t results P (goOnReached s from count t results)
     (λ number place e h. no-success number e h)
     (λ d n o e c g.
     unless-cases P (leb from (finished (length (opsIn s d n)))) (λ _ h. absurd (omega arith))

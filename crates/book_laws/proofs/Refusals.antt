@@ -31,13 +31,13 @@ use Rattle.look_call.specs.declared.LookAnswer.{LookAnswer}
 use Rattle.look_call.specs.LookBytes.{told, lookBytes}
 use Rattle.halts.specs.Halt.{finished}
 use Rattle.direct_book.specs.DirectBook.{DirectLeft, directEnded, directBook}
-use Rattle.direct_book.specs.GoOn.{goneOn, goOnBook}
+use Rattle.direct_book.specs.GoOn.{goOnReached, goOnBook}
 use Rattle.direct_book.proofs.Tested.{tests, left-cases}
 use Rattle.frame_run.specs.FrameBook.{Buffers, FrameLeft, frameBuffersFit, frameByAnswer, frameBook}
 use Rattle.shots.specs.Shots.{trayBook}
 use Rattle.shots.proofs.Refusals.{tray-cases}
 use Rattle.mirror_book.specs.MirrorBook.{mirrorOf, mirrorBytes, firstMeasurement, refuse12, mirrorByAnswer, mirrorBook}
-use Rattle.book_laws.specs.Refusals.{runNumbers, trayNumbers, writerNumbers, mirrorNumbers, goOnNumbers, lookNumbers, NumbersListed, WriterNamesBody, LayerUnchanged, WriterUnchanged, RunUnchanged, DirectUnchanged, GoOnUnchanged, LookUntold, FrameUnchanged, TrayUnchanged, MirrorUnchanged}
+use Rattle.book_laws.specs.Refusals.{runNumbers, trayNumbers, writerNumbers, mirrorNumbers, goOnNumbers, lookNumbers, NumbersListed, WriterNamesBody, LayerUnchanged, WriterUnchanged, DirectUnchanged, GoOnUnchanged, LookUntold, FrameUnchanged, TrayUnchanged, MirrorUnchanged}
 
 layer-listed : (d n : ℕ) (t : List ℕ) → among (layerNumber d n t) (0 ∷ 2 ∷ 3 ∷ 8 ∷ []) ≡ true
 unfolding layerNumber
@@ -96,7 +96,7 @@ direct-listed s t results =
 go-on-listed : (s : List ℕ) (from count : ℕ) (t results : List ℕ) → among (goOnBook s from count t results .number) goOnNumbers ≡ true
 unfolding goOnBook
 go-on-listed s from count t results =
-    left-cases s t results P (goneOn s from count t results)
+    left-cases s t results P (goOnReached s from count t results)
     (λ number place e. run-listed number (13 ∷ []) e)
     (λ d n o e c g. unless-cases P (leb from (finished (length (opsIn s d n)))) (λ _. refl) (λ _. refl))
   where
@@ -181,22 +181,24 @@ writer-unchanged d n ops errors choices out =
     write-cases d n ops errors choices out (λ left. left .number ≢ 0 → left .out ≡ out)
     (λ h. refl) (λ h. refl) (λ k l h. refl) (λ k h. refl) (λ k h. refl) (λ k h. refl) (λ h. refl) (λ e h. absurd (h refl))
 
+-- nothing is written, and the third number is 0
+abbrev Unwritten : (t results : List ℕ) → DirectLeft → Type 0
+Unwritten t results left = left .number ≢ 0 → (left .tableau ≡ t) × (left .results ≡ results) × (left .next ≡ 0)
+
 pub direct-unchanged : DirectUnchanged
 unfolding directBook
 direct-unchanged s t results =
-    left-cases s t results (λ left. left .number ≢ 0 → RunUnchanged t results left) (directEnded s t results)
+    left-cases s t results (Unwritten t results) (directEnded s t results)
     (λ number place e h. (refl, refl, refl))
     (λ d n o e c g h. absurd (h refl))
 
 pub go-on-unchanged : GoOnUnchanged
 unfolding goOnBook
 go-on-unchanged s from count t results =
-    left-cases s t results P (goneOn s from count t results)
+    left-cases s t results (Unwritten t results) (goOnReached s from count t results)
     (λ number place e h. (refl, refl, refl))
-    (λ d n o e c g. unless-cases P (leb from (finished (length (opsIn s d n)))) (λ _ h. (refl, refl, refl)) (λ _ h. absurd (h refl)))
-  where
-    P : DirectLeft → Type 0
-    P left = left .number ≢ 0 → RunUnchanged t results left
+    (λ d n o e c g.
+    unless-cases (Unwritten t results) (leb from (finished (length (opsIn s d n)))) (λ _ h. (refl, refl, refl)) (λ _ h. absurd (h refl)))
 
 pub look-untold : LookUntold
 unfolding lookBytes

@@ -9,7 +9,7 @@ use Rattle.saved_tableau.specs.Layer.{layerNumber, layerLeaves}
 use Rattle.saved_tableau.specs.Test.{testNumber}
 use Rattle.written_book.specs.Writer.{writeBook}
 use Rattle.look_call.specs.LookBytes.{lookBytes}
-use Rattle.direct_book.specs.DirectBook.{DirectLeft, directBook}
+use Rattle.direct_book.specs.DirectBook.{directBook}
 use Rattle.direct_book.specs.GoOn.{goOnBook}
 use Rattle.frame_run.specs.FrameBook.{Buffers, frameBook}
 use Rattle.shots.specs.Shots.{trayBook}
@@ -64,15 +64,15 @@ abbrev pub WriterUnchanged : Type 0
 WriterUnchanged = (d n : ℕ) (ops errors choices out : List ℕ) → writeBook d n ops errors choices out .number ≢ 0
     → writeBook d n ops errors choices out .out ≡ out
 
-abbrev pub RunUnchanged : (t results : List ℕ) → DirectLeft → Type 0
-RunUnchanged t results left = (left .tableau ≡ t) × (left .results ≡ results) × (left .next ≡ 0)
-
 abbrev pub DirectUnchanged : Type 0
-DirectUnchanged = (s t results : List ℕ) → directBook s t results .number ≢ 0 → RunUnchanged t results (directBook s t results)
+DirectUnchanged = (s t results : List ℕ) → directBook s t results .number ≢ 0
+    → (directBook s t results .tableau ≡ t) × (directBook s t results .results ≡ results) × (directBook s t results .next ≡ 0)
 
 abbrev pub GoOnUnchanged : Type 0
 GoOnUnchanged = (s : List ℕ) (from count : ℕ) (t results : List ℕ) → goOnBook s from count t results .number ≢ 0
-    → RunUnchanged t results (goOnBook s from count t results)
+    → (goOnBook s from count t results .tableau ≡ t)
+    × (goOnBook s from count t results .results ≡ results)
+    × (goOnBook s from count t results .next ≡ 0)
 
 -- A look that is refused tells nothing.
 abbrev pub LookUntold : Type 0

@@ -79,7 +79,8 @@ fn run_by(
     }
 }
 
-// The same on a tableau, whose first two bytes stay, by tables that are made once for all stages. From a finished run nothing is done.
+// The same on a tableau, whose first two bytes stay, by tables that are made once for all stages. Where nothing is to be done, for a count
+// of 0 or from a finished run, whose number stands before no stage, it returns at once.
 fn run(
     t: &mut [u8],
     results: &mut [u8],

@@ -31,7 +31,7 @@ use Rattle.halts.proofs.Numbers.{next-is, next-next, next-start, next-finished,
 use Rattle.halts.proofs.Goes.{to-finish, stays, goes-along}
 use Rattle.halts.proofs.Kept.{to-keeps-valid, to-results}
 use Rattle.direct_book.specs.DirectBook.{DirectLeft, directReached, directEnded, directBy, directBook}
-use Rattle.direct_book.specs.GoOn.{goneOn, goOnBook}
+use Rattle.direct_book.specs.GoOn.{goOnReached, goOnBook}
 use Rattle.direct_book.specs.Passes.{Passes}
 use Rattle.direct_book.proofs.Tested.{left-cases, passes-tested, left-same, no-success}
 use Rattle.book_laws.proofs.Left.{direct-ended}
@@ -73,8 +73,8 @@ module _ (s t results : List ℕ) {d n operations errors choices : ℕ} (g : Pas
   unfolding goOnBook directBy
   one-call from count l = rw (passes-tested s t results g, le-leb from (N + 1) l)
 
-  two : 2 ≤ length t
-  two = omega (arith, g .room)
+  two-bytes : 2 ≤ length t
+  two-bytes = omega (arith, g .room)
 
   start-valid : Valid d n (rowsIn t)
   start-valid = valid-rows t (g .room) (g .for-book)
@@ -82,7 +82,7 @@ module _ (s t results : List ℕ) {d n operations errors choices : ℕ} (g : Pas
   -- other rows stand behind d and n
   behind-names : (rows : List ℕ) → withRows t rows ≡ d ∷ n ∷ rows
   unfolding validFor
-  behind-names rows = let q = is-named t (both (names d n t) _ (g .for-book) .0) in opened t rows two ∙ rw (q .0, q .1)
+  behind-names rows = let q = is-named t (both (names d n t) _ (g .for-book) .0) in opened t rows two-bytes ∙ rw (q .0, q .1)
 
   -- what a look at valid rows tells
   looked : (rows : List ℕ) → Valid d n rows → (qudit : ℕ)
@@ -125,8 +125,8 @@ module _ (s t results : List ℕ) {d n operations errors choices : ℕ} (g : Pas
       let st = directTo d n (opsIn s d n) (errorsIn s) (choicesIn s) from k (stateOf (rowsIn t) results) in
       one-call s (withRows t (st .rows)) (st .results) (still s t results g from k) k count l
       ∙ rw (
-        rows-back t (st .rows) (two s t results g),
-        rows-twice t (st .rows) (directTo d n (opsIn s d n) (errorsIn s) (choicesIn s) k next st .rows) (two s t results g),
+        rows-back t (st .rows) (two-bytes s t results g),
+        rows-twice t (st .rows) (directTo d n (opsIn s d n) (errorsIn s) (choicesIn s) k next st .rows) (two-bytes s t results g),
         goes-along d n (opsIn s d n) (errorsIn s) (choicesIn s) (stateOf (rowsIn t) results) from k next a (next-is N' k count .on l),
       )
 
@@ -172,7 +172,7 @@ module _ (s t results : List ℕ) {d n operations errors choices : ℕ} (g : Pas
   stays-here from count l e =
       one-call s t results g from count (omega (arith, count-is)) ∙ ap (here from) (ap (λ (k : ℕ). nextOf k from count) count-is ∙ e) ∙ unmoved from
 
-  whole : (count : ℕ) → 4096 < count → goneOn s 0 count t results d n ≡ directEnded s t results d n
+  whole : (count : ℕ) → 4096 < count → goOnReached s 0 count t results d n ≡ directEnded s t results d n
   whole count large =
       let few : N' < count = omega (arith, op-count d n (bodyOf s 1), whole-operations s (g .reads) .1) in
       rw (
@@ -212,13 +212,13 @@ calls-look s d n operations errors choices e t results room results-room for-boo
 pub whole-book : WholeBook
 unfolding goOnBook directBook
 whole-book s count t results large =
-    left-same s t results (goneOn s 0 count t results) (directEnded s t results) (λ d n o e c g. whole s t results g count large)
+    left-same s t results (goOnReached s 0 count t results) (directEnded s t results) (λ d n o e c g. whole s t results g count large)
 
 -- a call that succeeds has been lent enough
 pub goes-on-book : GoesOnBook
 unfolding goOnBook
 goes-on-book s from one two t results =
-    left-cases s t results P (goneOn s from one t results)
+    left-cases s t results P (goOnReached s from one t results)
     (λ number place e h. no-success number e h)
     (λ d n o e c g.
     unless-cases P (leb from (finished (length (opsIn s d n)))) (λ _ h. absurd (omega arith))

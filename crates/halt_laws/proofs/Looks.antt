@@ -26,12 +26,13 @@ abbrev pub AsTold : (rows choices : List ℕ) (c j : ℕ) (results : List ℕ) �
 AsTold rows choices c j results after seen =
     (after .results ≡ withResult results j (cond (eqb (seen .free) 1) (getD choices c 0) (seen .outcome)) (seen .free))
     × (seen .free ≡ 0 → after .rows ≡ rows)
+    × (seen .free ≡ 1 → seen .outcome ≡ 0)
 
 pub told-by : (d n : ℕ) (rows : List ℕ) (qudit : ℕ) (choices : List ℕ) (c j : ℕ) (results : List ℕ) (x : Look) → look d n rows qudit ≡ x
     → AsTold rows choices c j results (directOperation d n choices c j (stateOf rows results) (Measure qudit)) (told x)
 unfolding directKind directLook
-told-by d n rows qudit choices c j results (Free k) e = (rw e, λ z. absurd (omega arith))
-told-by d n rows qudit choices c j results (Certain outcome) e = (rw e, λ z. rw e)
+told-by d n rows qudit choices c j results (Free k) e = (rw e, λ z. absurd (omega arith), λ z. refl)
+told-by d n rows qudit choices c j results (Certain outcome) e = (rw e, λ z. rw e, λ z. absurd (omega arith))
 
 pub look-tells : LookTells
 unfolding lookBytes

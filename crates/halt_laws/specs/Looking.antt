@@ -21,8 +21,8 @@ use Rattle.halts.specs.Halt.{Action, reaches, directTo}
 use Rattle.direct_book.specs.GoOn.{goOnBook}
 use Rattle.halt_laws.specs.Halting.{calls, notBegun}
 
--- A measurement of the qudit looked at would be as the look tells, whichever choice and result are its own. Its mark is the first number.
--- If it is certain, its outcome is the second number, and no row changes; if it is free, its outcome is the choice.
+-- A measurement of the qudit looked at would be as the look tells, whichever choice and result are its own. Its mark is the second number.
+-- If it is certain, its outcome is the third, and no row changes; if it is free, its outcome is the choice, and the third number is 0.
 abbrev pub LookTells : Type 0
 LookTells = (t : List ℕ) (qudit : ℕ) → lookBytes t qudit .number ≡ 0
     → (choices : List ℕ) (c j : ℕ) (results : List ℕ)
@@ -30,6 +30,7 @@ LookTells = (t : List ℕ) (qudit : ℕ) → lookBytes t qudit .number ≡ 0
     let after = directOperation (dimensionIn t) (quditsIn t) choices c j (stateOf (rowsIn t) results) (Measure qudit) in
     (after .results ≡ withResult results j (cond (eqb (seen .free) 1) (getD choices c 0) (seen .outcome)) (seen .free))
     × (seen .free ≡ 0 → after .rows ≡ rowsIn t)
+    × (seen .free ≡ 1 → seen .outcome ≡ 0)
 
 -- After any calls, a look tells of the rows that the run has reached, unless the qudit is not below n.
 abbrev pub CallsLook : Type 0

@@ -57,7 +57,7 @@ abbrev pub WholeRun : Type 0
 WholeRun = (d n : ℕ) (ops : List Operation) (errors : List WeylError) (choices : List ℕ) (st : State) (count : ℕ) → length ops < count
     → directFrom d n ops errors choices 0 count st ≡ directRun d n ops errors choices st
 
--- Halting and going on is going on at once, from any number.
+-- Halting and going on is going on at once, from any number up to a finished run's.
 abbrev pub GoesOn : Type 0
 GoesOn = (d n : ℕ) (ops : List Operation) (errors : List WeylError) (choices : List ℕ) (st : State) (from one two : ℕ)
     → from ≤ finished (length ops)

@@ -26,7 +26,12 @@ level-2 = 3 ∷ 1 ∷ 1 ∷ 0 ∷ 0 ∷ 0 ∷ 1 ∷ 1 ∷ []
 abbrev spread : List ℕ
 spread = 3 ∷ 1 ∷ 0 ∷ 1 ∷ 0 ∷ 2 ∷ 0 ∷ 0 ∷ []
 
--- Certain 0, certain 2, free; 13 for a qudit that isn't there, however large its number; 9 comes before it, and 8 before that.
+-- two qutrits, the second after Fourier: the first stabilizer with an X power there is stabilizer 1
+abbrev second-spread : List ℕ
+second-spread = 3 ∷ 2 ∷ 1 ∷ 0 ∷ 0 ∷ 0 ∷ 0 ∷ 0 ∷ 0 ∷ 0 ∷ 1 ∷ 0 ∷ 0 ∷ 0 ∷ 1 ∷ 0 ∷ 0 ∷ 0 ∷ 2 ∷ 0 ∷ 0 ∷ 0 ∷ []
+
+-- Certain 0, certain 2, free; 13 for a qudit that isn't there, however large its number; 9 comes before it, and 8, 3
+-- and 2 before that. The pivot of a free look is not told.
 seen :
     (lookBytes level-0 0 ≡ record { number = 0; free = 0; outcome = 0 })
     × (lookBytes level-2 0 ≡ record { number = 0; free = 0; outcome = 2 })
@@ -35,5 +40,9 @@ seen :
     × (lookBytes level-0 256 ≡ lookRefused 13)
     × (lookBytes (set level-0 2 2) 1 ≡ lookRefused 9)
     × (lookBytes (3 ∷ []) 1 ≡ lookRefused 8)
+    × (lookBytes (4 ∷ 1 ∷ 1 ∷ 0 ∷ 0 ∷ 0 ∷ 1 ∷ 0 ∷ []) 0 ≡ lookRefused 2)
+    × (lookBytes (3 ∷ 0 ∷ []) 0 ≡ lookRefused 3)
+    × (lookBytes (3 ∷ 1 ∷ 1 ∷ []) 1 ≡ lookRefused 8)
+    × (lookBytes second-spread 1 ≡ record { number = 0; free = 1; outcome = 0 })
 unfolding lookBytes testNumber listed selfValid valid rowValid all pairing dot part look pivotOf firstNot combination weighted product power scalar rowOf tab
-seen = (refl, refl, refl, refl, refl, refl, refl)
+seen = (refl, refl, refl, refl, refl, refl, refl, refl, refl, refl, refl)

@@ -29,7 +29,7 @@ fn refused(number: usize) -> LookAnswer
     }
 }
 
-// What a look of the rows behind the first two bytes tells.
+// What a look at the rows behind the first two bytes tells.
 fn look_rows(t: &[u8], q: usize, d: u8, n: usize) -> LookAnswer
     requires { ⌜ (listed d ≡ true)
         × (q < n)
