@@ -66,8 +66,8 @@ fn run_by(
         (stateOf (now (t .entry)) (now (results .entry))) ⌝ }
 {
     let count = ops.len() / 4;
-    let end = if next < count { next } else { count };
     let mut at = cursors::position(ops, errors, from, d, n);
+    let end = if count < next { count } else { next };
     let mut k = from;
     while k < end {
         at = direct_step::advance(t, results, ops, errors, choices, k, at, tables, d, n);
