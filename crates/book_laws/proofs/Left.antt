@@ -15,7 +15,7 @@ use Rattle.saved_tableau_laws.proofs.Exactly.{self-valid-exactly, valid-for, va
 use Rattle.book_body.specs.Body.{accepted}
 use Rattle.book.specs.Book.{readBook}
 use Rattle.book.specs.Decoded.{opsIn, errorsIn, choicesIn, measurementsIn}
-use Rattle.runs.specs.Direct.{stateOf, directRun}
+use Rattle.runs.specs.Direct.{stateOf}
 use Rattle.runs.specs.Frame.{frameRun}
 use Rattle.run_laws.proofs.Window.{Window, window-of, valid-window}
 use Rattle.direct_book.specs.DirectBook.{directEnded, directBy, directBook}

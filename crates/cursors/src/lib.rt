@@ -4,7 +4,7 @@ ghost use mathlib.Core.Bool.{true};
 ghost use Prim.Native.Nat.{ℕ, _/_, _<_, _≤_};
 ghost use lib.ListN.{length};
 ghost use Rattle.operation.specs.Operation.{allowed};
-ghost use Rattle.circuit.specs.Circuit.{opAt, errAt, measured, chosen, ErrorsInOrder};
+ghost use Rattle.circuit.specs.Circuit.{opAt, chosen, ErrorsInOrder};
 ghost use Rattle.book.specs.Decoded.{operationsOf, errorsOf};
 ghost use Rattle.runs.specs.Reached.{Reached, AtStep};
 use runs::Position;

@@ -5,12 +5,10 @@ use mathlib.Core.Bool.{true, false≢true}
 use mathlib.Core.Logic.{_≢_}
 use mathlib.Core.List.{List, [], _∷_}
 use Prim.Native.Nat.{ℕ, _*_}
-use native.Mathlib.Omega.{arith}
 use lib.Dec.{leb}
 use lib.ListN.{length}
 use borrow.Author.Tests.{le-leb, leb-true}
 use Rattle.modular.specs.Dimension.{among}
-use Rattle.search.specs.Search.{unless}
 use Rattle.search.proofs.Search.{both, met, unless-cases}
 use Rattle.saved_tableau.specs.Saved.{tableauBytes, validFor}
 use Rattle.book_body.specs.Body.{ReaderAnswer, refused, accepted}

@@ -1,9 +1,8 @@
 -- Calls of a book: none is refused, since the tableau stays valid and the buffers keep their lengths.
 -- Assumes nothing.
 use mathlib.Core.Path.{_≡_, refl, sym, ap, _∙_}
-use mathlib.Core.Bool.{true}
 use mathlib.Core.List.{List, [], _∷_, _++_}
-use Prim.Native.Nat.{ℕ, _+_, _*_, _<_, _≤_}
+use Prim.Native.Nat.{ℕ, _+_, _<_, _≤_}
 use native.Mathlib.Omega.{arith}
 use lib.Dec.{leb, ltb}
 use lib.ListN.{length, take-append-drop}
@@ -13,12 +12,11 @@ use Rattle.modular.proofs.Listed.{dimension}
 use Rattle.search.specs.Search.{unless}
 use Rattle.search.proofs.Search.{both, unless-cases}
 use Rattle.validity.specs.Validity.{Valid}
-use Rattle.saved_tableau.specs.Saved.{rowsIn, withRows, tableauBytes, names, validFor}
+use Rattle.saved_tableau.specs.Saved.{rowsIn, withRows, names, validFor}
 use Rattle.saved_tableau.specs.Test.{testNumber}
 use Rattle.saved_tableau_laws.proofs.Rows.{opened, same-bytes, rows-back}
 use Rattle.saved_tableau_laws.proofs.Exactly.{test-exactly, saved-passes, is-named, valid-for, valid-rows}
-use Rattle.book_body.specs.Body.{accepted}
-use Rattle.book.specs.Book.{readBook, bodyOf}
+use Rattle.book.specs.Book.{bodyOf}
 use Rattle.book.specs.Decoded.{Means, opsIn, errorsIn, choicesIn, measurementsIn}
 use Rattle.book.proofs.Contents.{whole-operations}
 use Rattle.book.proofs.Lists.{op-count}

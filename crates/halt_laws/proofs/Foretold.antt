@@ -1,7 +1,6 @@
 -- The next operation gives what the look told, if it measures that qudit and no error is placed before it.
 -- Assumes nothing.
-use mathlib.Core.Path.{_≡_, refl, sym, ap, _∙_}
-use mathlib.Core.Bool.{true}
+use mathlib.Core.Path.{_≡_, refl}
 use mathlib.Core.Logic.{_≢_}
 use mathlib.Core.List.{List}
 use Prim.Native.Nat.{ℕ, zero, suc, _+_, _-_, _<_}
@@ -10,18 +9,15 @@ use native.Mathlib.Omega.{arith}
 use lib.ListN.{length}
 use borrow.Author.Tests.{ltb-true}
 use Rattle.operation.specs.declared.Operation.{Operation}
-use Rattle.operation.specs.declared.Operation.the-variants.{Measure}
 use Rattle.operation.specs.declared.WeylError.{WeylError}
-use Rattle.operation.specs.Operation.{allowed}
 use Rattle.circuit.specs.Circuit.{opAt, errAt, measured, chosen}
 use Rattle.saved_tableau.specs.Saved.{rowsIn}
 use Rattle.book.specs.Decoded.{opsIn, errorsIn, choicesIn}
 use Rattle.book.proofs.Meaning.{accepted-means}
 use Rattle.measurement.specs.Look.{look}
-use Rattle.look_call.specs.declared.LookAnswer.{LookAnswer}
 use Rattle.look_call.specs.LookBytes.{told}
 use Rattle.runs.specs.Run.{stepsFrom}
-use Rattle.runs.specs.Direct.{State, stateOf, errorsOnRows, directOperation, directErrors, directStep}
+use Rattle.runs.specs.Direct.{stateOf, errorsOnRows, directOperation, directErrors, directStep}
 use Rattle.runs.proofs.Taken.{rows-taken, taken-skip}
 use Rattle.halts.specs.Halt.{nextOf, directTo, directFrom}
 use Rattle.halts.proofs.Numbers.{next-halted}

@@ -16,7 +16,7 @@ use Rattle.runs.specs.Run.{stepsFrom}
 use Rattle.runs.specs.Direct.{State, directErrors, directStep}
 use Rattle.run_laws.proofs.Sound.{step-keeps-valid, place-valid}
 use Rattle.runs.proofs.Results.{step-results}
-use Rattle.halts.specs.Halt.{nextOf, directStage, directTo, directFrom, GoingOnKeepsValid}
+use Rattle.halts.specs.Halt.{nextOf, directStage, directTo, GoingOnKeepsValid}
 
 module _ (d n : ℕ) (ops : List Operation) (errors : List WeylError) (choices : List ℕ) where
   module _ (dim : Dimension d) (ac : Accepted d n ops errors choices) where

@@ -13,7 +13,6 @@ use Rattle.validity.specs.Validity.{rowValid, valid}
 use Rattle.saved_tableau.specs.Saved.{selfValid}
 use Rattle.saved_tableau.specs.Test.{testNumber}
 use Rattle.measurement.specs.Look.{pivotOf, combination, weighted, look}
-use Rattle.look_call.specs.declared.LookAnswer.{LookAnswer}
 use Rattle.look_call.specs.LookBytes.{lookRefused, lookBytes}
 
 -- level 0, level 2, and level 0 after Fourier

@@ -10,7 +10,7 @@ use borrow.Author.Tests.{lt-ltb, le-ltb, eq-eqb}
 use Rattle.modular.specs.Dimension.{listed}
 use Rattle.tableau.proofs.Sized.{sized-most}
 use Rattle.validity.specs.Validity.{Valid}
-use Rattle.saved_tableau.specs.Saved.{dimensionIn, quditsIn, rowsIn, tableauBytes}
+use Rattle.saved_tableau.specs.Saved.{dimensionIn, quditsIn, rowsIn}
 use Rattle.saved_tableau.specs.Test.{testNumber}
 use Rattle.saved_tableau_laws.proofs.Exactly.{test-exactly, self-valid-exactly}
 use Rattle.measurement.specs.Look.{look}

@@ -1,10 +1,9 @@
 -- `cursors::entry_from` meets its contract. The loop's invariant: every entry passed has a lower place.
 -- Assumes nothing.
 use mathlib.Core.Path.{_≡_, sym, _∙_}
-use Prim.Native.Nat.{ℕ, _-_, _<_, _≤_}
+use Prim.Native.Nat.{_-_, _≤_}
 use native.Mathlib.Omega.{arith}
 use denote.Ref.{now}
-use lib.ListN.{length}
 use borrow.Author.Needs.{needs}
 use Rattle.book.specs.Decoded.{errorsOf}
 use Rattle.book.proofs.Lists.{error-count, error-at}
