@@ -26,7 +26,7 @@ GoesOnBook = (s : List ℕ) (from one two : ℕ) (t results : List ℕ) → goOn
 abbrev pub WholeBook : Type 0
 WholeBook = (s : List ℕ) (count : ℕ) (t results : List ℕ) → 4096 < count → goOnBook s 0 count t results ≡ directBook s t results
 
--- From a finished run nothing is done, and from any other nothing for a count of 0: no byte changes.
+-- Where the number stays, from a finished run or for a count of 0, nothing is done: no byte changes.
 abbrev pub NothingDone : Type 0
 NothingDone = (s : List ℕ) (d n operations errors choices : ℕ) → readBook s ≡ accepted d n operations errors choices
     → (t results : List ℕ) → tableauBytes n ≤ length t → 2 * measurementsIn s d n ≤ length results → validFor d n t ≡ true

@@ -391,7 +391,7 @@ halted-run = halted.halted-run
 pub whole-run : WholeRun
 whole-run = halted.whole-run
 
--- Over lists: halting and going on is going on at once, from any number.
+-- Over lists: halting and going on is going on at once, from any number up to a finished run's.
 pub goes-on : GoesOn
 goes-on = halted.goes-on
 
