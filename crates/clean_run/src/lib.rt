@@ -1,4 +1,5 @@
 // The clean run: every operation on the rows, and no errors.
+#![tactic(auto)]
 ghost use Rattle.std.specs.Prelude.{◌≡◌, true, [], ◌*◌, ◌≤◌, length};
 ghost use Rattle.modular.specs.Dimension.{listed};
 ghost use Rattle.validity.specs.Validity.{Valid};

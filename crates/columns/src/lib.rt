@@ -1,4 +1,5 @@
 // The powers of a tableau by columns, and the two sums of a row's pairings with earlier rows.
+#![tactic(auto)]
 ghost use Rattle.std.specs.Prelude.{◌≡◌, ◌+◌, ◌*◌, ◌<◌, replicate};
 ghost use Rattle.columns.specs.Columns.{SmallTableau, Laid, RowSums};
 

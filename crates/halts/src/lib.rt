@@ -1,1 +1,2 @@
 // A direct run that halts and goes on, over decoded lists; no code.
+#![tactic(auto)]

@@ -1,4 +1,5 @@
 // Inverses modulo the listed dimensions.
+#![tactic(auto)]
 ghost use Rattle.std.specs.Prelude.{◌≡◌, ◌<◌, ◌≤◌};
 ghost use Rattle.modular.specs.Modular.{Reciprocal};
 ghost use Rattle.modular.specs.Dimension.{power_of, inverse};

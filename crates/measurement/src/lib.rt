@@ -1,4 +1,5 @@
 // What a measurement of a qudit is.
+#![tactic(auto)]
 
 // Each measurement is either free, with its pivot stabilizer, or certain, with its outcome.
 #[derive(Drop)]

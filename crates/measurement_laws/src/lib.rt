@@ -1,1 +1,2 @@
 // What a measurement means; no code.
+#![tactic(auto)]

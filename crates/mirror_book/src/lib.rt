@@ -1,1 +1,2 @@
 // The mirror of a book: operations reversed, each turned into its inverse; no code.
+#![tactic(auto)]

@@ -1,1 +1,2 @@
 // What a mirror undoes, and what it carries on; no code.
+#![tactic(auto)]

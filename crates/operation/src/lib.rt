@@ -1,4 +1,5 @@
 // The nine operations, a step, and an error.
+#![tactic(auto)]
 
 // Each case has the operands of its line in the table of operations: q, c and t are qudits, u is a factor, m is the number of a
 // measurement, and `times` says how often the gate is applied.

@@ -1,4 +1,5 @@
 // The two runs over decoded lists, and where a run stands.
+#![tactic(auto)]
 
 // The next error entry, how many measurements were made, and how many choices were taken.
 #[derive(Drop)]

@@ -1,1 +1,2 @@
 // What the sheet of weights is: definitions alone.
+#![tactic(auto)]

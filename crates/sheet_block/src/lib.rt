@@ -1,4 +1,5 @@
 // A block of up to 128 entries: their unit errors carried in lanes, their weights through tiles to the rows of the sheet.
+#![tactic(auto)]
 ghost use Rattle.std.specs.Prelude.{◌≡◌, ◌+◌, ◌-◌, ◌*◌, ◌/◌, ◌<◌, ◌≤◌, length, get_or};
 ghost use Rattle.circuit.specs.Circuit.{measured};
 ghost use Rattle.book.specs.Decoded.{operations_of, errors_of};

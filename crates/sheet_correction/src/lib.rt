@@ -1,4 +1,5 @@
 // A correction in the lanes of unit errors: what a lane loses is its weight for the named measurement, since without errors nothing shifts.
+#![tactic(auto)]
 ghost use Rattle.std.specs.Prelude.{ℕ, ◌+◌, ◌*◌, ◌<◌, ◌≤◌, ◌≡◌, length};
 ghost use Rattle.lanes.specs.Lanes.{Lanes};
 ghost use Rattle.correction.specs.Correction.{Corrected};

@@ -1,1 +1,2 @@
 // The sheet of weights tells the frame run's shifts; no code.
+#![tactic(auto)]

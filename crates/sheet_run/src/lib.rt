@@ -1,4 +1,5 @@
 // The sheet of weights of a book.
+#![tactic(auto)]
 ghost use Rattle.std.specs.Prelude.{◌≡◌, ◌+◌, ◌*◌, ◌/◌, ◌<◌, ◌≤◌, length};
 ghost use Rattle.circuit.specs.Circuit.{measured};
 ghost use Rattle.book.specs.Decoded.{operations_of, errors_of};

@@ -1,4 +1,5 @@
 // Unit errors in lanes: each entry of a block with p = 1, and with s = 1, when its place comes.
+#![tactic(auto)]
 ghost use Rattle.std.specs.Prelude.{◌≡◌, ◌+◌, ◌*◌, ◌<◌, ◌≤◌, length};
 ghost use Rattle.circuit.specs.Circuit.{ErrorsInOrder};
 ghost use Rattle.book.specs.Decoded.{errors_of};

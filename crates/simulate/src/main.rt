@@ -1,4 +1,5 @@
 // Reads one shot book from standard input and prints its frame run from the zero tableau.
+#![tactic(auto)]
 ghost use Rattle.std.specs.Prelude.{◌+◌, ◌*◌, ◌<◌, ◌≤◌, length};
 
 use book_body::{Numbers, Reading};

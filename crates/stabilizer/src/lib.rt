@@ -1,1 +1,2 @@
 // The algebra of stabilizer sets; no code.
+#![tactic(auto)]

@@ -1,1 +1,2 @@
 // What a valid tableau is; no code.
+#![tactic(auto)]

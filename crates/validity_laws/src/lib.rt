@@ -1,1 +1,2 @@
 // What keeps a tableau valid; no code.
+#![tactic(auto)]
