@@ -83,13 +83,18 @@ def table():
 
 
 def main():
-    new, tokens = table()
+    names, tokens = table()
     if "--table" in sys.argv:
-        for old, to in sorted(new.items()):
+        for old, to in sorted(names.items()):
             print(old, to, "(a token before)" if to in tokens else "")
         return
     for path in sources():
         text = open(path, encoding="utf-8").read()
+        # A function of src/ keeps its name, and what is renamed beside a definition is a lemma.
+        if path.endswith(".rt"):
+            new = {old: to for old, to in names.items() if not to.endswith("_lem")}
+        else:
+            new = names
         # Behind a dot of a function's proof stands a step, named after a function, or a field.
         step = lambda m: path.endswith("/Proof.antt") and text[m.start() - 1 : m.start()] == "."
         turned = TOKEN.sub(lambda m: re.sub("_lem$", "", new[m[0]]) if m[0] in new and step(m) else new.get(m[0], m[0]), text)

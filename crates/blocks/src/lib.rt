@@ -8,7 +8,7 @@ ghost use Rattle.blocks.specs.Blocks.{Assigned, InTray, TrayErrors, BlockShots, 
 use book_entries::word;
 
 // How many shots a block has, how many of them have errors, and where the next shot's body begins.
-#[derive(Drop)]
+#[derive(Clone, Copy)]
 pub struct Extent {
     pub count: usize,
     pub noisy: usize,
@@ -84,7 +84,7 @@ fn fill_rows(
 }
 
 // The first shot of the next block, where its body begins, and how many shots of this block are shifted.
-#[derive(Drop)]
+#[derive(Clone, Copy)]
 pub struct Advance {
     pub next: usize,
     pub start: usize,

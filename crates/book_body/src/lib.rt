@@ -9,7 +9,7 @@ use operation::{Operation, WeylError};
 use search::Place;
 
 // The numbers of an accepted book.
-#[derive(Drop)]
+#[derive(Clone, Copy)]
 pub struct Numbers {
     pub d: u8,
     pub n: usize,
@@ -20,7 +20,7 @@ pub struct Numbers {
 }
 
 // The reader's answer.
-#[derive(Drop)]
+#[derive(Clone, Copy)]
 pub enum Reading {
     Accepted(Numbers),
     Refused { number: u8, place: usize },

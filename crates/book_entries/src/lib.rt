@@ -7,7 +7,7 @@ ghost use Rattle.book_entries.specs.Fits.{second_fits, last_limit, last_fits, pl
 use operation::{Operation, WeylError};
 
 // An entry of operations, decoded.
-#[derive(Drop)]
+#[derive(Clone, Copy)]
 pub enum Decoded {
     Good(Operation),
     Bad,
@@ -29,7 +29,7 @@ pub fn times_in(b: u8) -> u8
     if b == 0 { 1 } else { b }
 }
 
-fn second_fits_lem(n: usize, b0: u8, b1: usize, b2: usize) -> bool
+fn second_fits(n: usize, b0: u8, b1: usize, b2: usize) -> bool
     ensures { result ≡ second_fits n b0 b1 b2 }
 {
     if (2 <= b0) & (b0 <= 4) {
@@ -71,10 +71,10 @@ fn last_fits(d: u8, b0: u8, b3: u8) -> bool
 
 // Whether four bytes are a gate or a measurement, without telling every code apart: a processor foresees the jump to a test of each code
 // badly.
-fn plain_fits_lem(d: u8, n: usize, b0: u8, b1: usize, b2: usize, b3: u8) -> bool
+fn plain_fits(d: u8, n: usize, b0: u8, b1: usize, b2: usize, b3: u8) -> bool
     ensures { result ≡ plain_fits d n b0 b1 b2 b3 }
 {
-    ((b0 <= 6) & (b1 < n)) & (second_fits_lem(n, b0, b1, b2) & last_fits(d, b0, b3))
+    ((b0 <= 6) & (b1 < n)) & (second_fits(n, b0, b1, b2) & last_fits(d, b0, b3))
 }
 
 // Whether entry k of a body of operations is a gate or a measurement.
@@ -83,7 +83,7 @@ pub fn plain_at(ops: &[u8], k: usize, d: u8, n: usize) -> bool
     ensures { result ≡ plain_at d n ops.now k }
 {
     let at = 4 * k;
-    plain_fits_lem(
+    plain_fits(
         d,
         n,
         ops[at],
@@ -97,7 +97,7 @@ pub fn plain_at(ops: &[u8], k: usize, d: u8, n: usize) -> bool
 fn fits(d: u8, n: usize, b0: u8, b1: usize, b2: usize, b3: u8) -> bool
     ensures { result ≡ fits d n b0 b1 b2 b3 }
 {
-    if plain_fits_lem(d, n, b0, b1, b2, b3) {
+    if plain_fits(d, n, b0, b1, b2, b3) {
         return true;
     }
     (b1 < n) & (((b0 == 7) & ((b2 == 0) & (b3 == 0))) | ((b0 == 8) & (b2 < 256)))

@@ -4,7 +4,7 @@ ghost use Rattle.std.specs.Prelude.{◌≡◌, ◌+◌, ◌*◌, ◌<◌, ◌≤
 ghost use Rattle.dots.specs.Dots.{Small, Factors, SmallColumns, ColumnSums, SmallFour, four_at, products};
 
 // Four powers of a row, as the factors of four columns.
-#[derive(Drop)]
+#[derive(Clone, Copy)]
 struct Four {
     first: u16,
     second: u16,

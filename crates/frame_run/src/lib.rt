@@ -14,7 +14,7 @@ use book_body::Reading;
 // What the frame run returns: 0, the number of measurements and the verdict, 0 clean or 1 shifted; or a refusal's number, its
 // place and 0.
 #[repr(C)]
-#[derive(Drop)]
+#[derive(Clone, Copy)]
 pub struct FrameAnswer {
     pub number: usize,
     pub place: usize,

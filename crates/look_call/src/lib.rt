@@ -12,7 +12,7 @@ use measurement::Look;
 // What a look returns: 0, then 1 and 0 if a measurement would be free, 0 and the outcome if it would be certain; or a refusal's number, 0
 // and 0.
 #[repr(C)]
-#[derive(Drop)]
+#[derive(Clone, Copy)]
 pub struct LookAnswer {
     pub number: usize,
     pub free: usize,

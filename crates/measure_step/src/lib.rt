@@ -20,7 +20,7 @@ fn write_result(results: &mut [u8], j: usize, outcome: u8, mark: u8)
 }
 
 // What a measurement gave: its outcome, and whether it was free (1) or certain (0).
-#[derive(Drop)]
+#[derive(Clone, Copy)]
 pub struct Outcome {
     pub value: u8,
     pub mark: u8,

@@ -2,7 +2,7 @@
 #![tactic(auto)]
 
 // Each measurement is either free, with its pivot stabilizer, or certain, with its outcome.
-#[derive(Drop)]
+#[derive(Clone, Copy)]
 pub enum Look {
     Free { pivot: usize },
     Certain { outcome: u8 },

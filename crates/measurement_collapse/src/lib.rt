@@ -11,7 +11,7 @@ ghost use Rattle.measurement_collapse.specs.FreeMeasurement.{Operands, PivotRow,
 ghost use Rattle.measurement_collapse.specs.Changing.{selected, on_selected, is_changing};
 
 // A free measurement of qudit q by stabilizer k, the pivot, whose X power on q is e: inv is 1/e, and m the wide reciprocal of d.
-#[derive(Drop)]
+#[derive(Clone, Copy)]
 struct Measurement {
     q: usize,
     k: usize,

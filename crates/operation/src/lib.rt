@@ -3,7 +3,7 @@
 
 // Each case has the operands of its line in the table of operations: q, c and t are qudits, u is a factor, m is the number of a
 // measurement, and `times` says how often the gate is applied.
-#[derive(Drop)]
+#[derive(Clone, Copy)]
 pub enum Operation {
     Fourier { q: usize, times: u8 },
     PhaseGate { q: usize, times: u8 },
@@ -17,14 +17,14 @@ pub enum Operation {
 }
 
 // An operation together with its index in the book.
-#[derive(Drop)]
+#[derive(Clone, Copy)]
 pub struct Step {
     pub index: usize,
     pub operation: Operation,
 }
 
 // X^p Z^s on a qudit, before the operation whose index is `place`.
-#[derive(Drop)]
+#[derive(Clone, Copy)]
 pub struct WeylError {
     pub place: usize,
     pub qudit: usize,

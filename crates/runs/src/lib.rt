@@ -2,7 +2,7 @@
 #![tactic(auto)]
 
 // The next error entry, how many measurements were made, and how many choices were taken.
-#[derive(Drop)]
+#[derive(Clone, Copy)]
 pub struct Position {
     pub entry: usize,
     pub measurements: usize,

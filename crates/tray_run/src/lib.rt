@@ -13,7 +13,7 @@ use search::Place;
 
 // What a tray run returns: 0, the number of clean shots and the number of shifted ones; or a refusal's number, its place and 0.
 #[repr(C)]
-#[derive(Drop)]
+#[derive(Clone, Copy)]
 pub struct TrayAnswer {
     pub number: usize,
     pub place: usize,

@@ -7,15 +7,19 @@ use Rattle.book_entries.proofs.Fitting.{by_fits}
 use Rattle.book_entries.proofs.decode.Statement.{statement}
 use Rattle.book_entries.proofs.decode.Tie as tie
 
-returns : tie.Need-returns
+returns : tie.Need-returns-then-not-fits
 returns c =
-    let a = c.before.before.args in
-    rw (by_fits a.d a.n a.b1 a.b2 a.b3 a.b0, sym c.before.fits2.ensures ∙ not-true _ c.if1.true)
+    let a = c.args in
+    rw (by_fits a.d a.n a.b1 a.b2 a.b3 a.b0, sym c.before.fits2.ensures ∙ not-true _ c.if-not-fits.true)
 
-returns-2 : tie.Need-returns-2
+returns-2 : tie.Need-returns
 returns-2 c =
-    let a = c.before.before.before.args in
-    rw (by_fits a.d a.n a.b1 a.b2 a.b3 a.b0, sym c.before.before.fits2.ensures ∙ not-false _ c.before.if1.false, c.coded.ensures)
+    let a = c.args in
+    rw (by_fits a.d a.n a.b1 a.b2 a.b3 a.b0, sym c.before.before.fits2.ensures ∙ not-false _ c.if-not-fits.false, c.coded.ensures)
 
-pub decode-spec : {M : Type 1} → statement M
-decode-spec = tie.close (tie.spec (λ c κs. search rules) returns (λ c κs. search rules) returns-2)
+pub decode_spec : {M : Type 1} → statement M
+decode_spec = tie.close (tie.spec
+    (λ c κs. search rules)
+    returns
+    (λ c κs. search rules)
+    returns-2)

@@ -6,13 +6,16 @@ use Rattle.book_entries.specs.Fits.{fits}
 use Rattle.book_entries.proofs.fits.Statement.{statement}
 use Rattle.book_entries.proofs.fits.Tie as tie
 
-returns : tie.Need-returns
+returns : tie.Need-returns-then-plain_fits
 unfolding fits
-returns c = rw (sym c.before.plain_fits.ensures ∙ c.if1.true)
+returns c = rw (sym c.plain_fits.ensures ∙ c.if-plain_fits.true)
 
-returns-2 : tie.Need-returns-2
+returns-2 : tie.Need-returns
 unfolding fits
-returns-2 c = rw (sym c.before.plain_fits.ensures ∙ c.if1.false)
+returns-2 c = rw (sym c.plain_fits.ensures ∙ c.if-plain_fits.false)
 
-pub fits-spec : {M : Type 1} → statement M
-fits-spec = tie.close (tie.spec (λ c κs. search rules) returns returns-2)
+pub fits_spec : {M : Type 1} → statement M
+fits_spec = tie.close (tie.spec
+    (λ c κs. search rules)
+    returns
+    returns-2)

@@ -4,14 +4,17 @@ use borrow.Author.Tests.{eq-eqb, ne_eqb}
 use Rattle.book_entries.proofs.last_limit.Statement.{statement}
 use Rattle.book_entries.proofs.last_limit.Tie as tie
 
-returns : tie.Need-returns
-returns c = rw (eq-eqb _ 0 c.if1.true)
+returns : tie.Need-returns-then-b0-eq0
+returns c = rw (eq-eqb _ 0 c.if-b0-eq0.true)
 
-returns-2 : tie.Need-returns-2
-returns-2 c = rw (ne_eqb _ 0 c.before.if1.false, c.if2.true)
+returns-2 : tie.Need-returns-then-b0
+returns-2 c = rw (ne_eqb _ 0 c.if-b0-eq0.false, c.if-b0.true)
 
-returns-3 : tie.Need-returns-3
-returns-3 c = rw (ne_eqb _ 0 c.before.if1.false, c.if2.false)
+returns-3 : tie.Need-returns-else-b0
+returns-3 c = rw (ne_eqb _ 0 c.if-b0-eq0.false, c.if-b0.false)
 
-pub last-limit-spec : {M : Type 1} → statement M
-last-limit-spec = tie.close (tie.spec returns returns-2 returns-3)
+pub last_limit_spec : {M : Type 1} → statement M
+last_limit_spec = tie.close (tie.spec
+    returns
+    returns-2
+    returns-3)

@@ -5,10 +5,10 @@ use Rattle.book_entries.proofs.operation_at.Statement.{statement}
 use Rattle.book_entries.proofs.operation_at.Tie as tie
 
 returns : tie.Need-returns
-returns c = rw (← c.before.before.before.before.byte-as-usize.ensures.0, ← c.before.before.byte-as-usize2.ensures.0) c.decode.ensures
+returns c = rw (← c.byte_as_usize.ensures.0, ← c.byte_as_usize-2.ensures.0) c.decode.ensures
 
-pub operation-at-spec : {M : Type 1} → statement M
-operation-at-spec =
+pub operation_at_spec : {M : Type 1} → statement M
+operation_at_spec =
     tie.close
     (tie.spec
     (λ c. search rules)

@@ -5,10 +5,10 @@ use Rattle.book_entries.proofs.plain_at.Statement.{statement}
 use Rattle.book_entries.proofs.plain_at.Tie as tie
 
 returns : tie.Need-returns
-returns c = rw (← c.before.before.before.before.byte-as-usize.ensures.0, ← c.before.before.byte-as-usize2.ensures.0) c.plain_fits.ensures
+returns c = rw (← c.byte_as_usize.ensures.0, ← c.byte_as_usize-2.ensures.0) c.plain_fits.ensures
 
-pub plain-at-spec : {M : Type 1} → statement M
-plain-at-spec =
+pub plain_at_spec : {M : Type 1} → statement M
+plain_at_spec =
     tie.close
     (tie.spec
     (λ c. search rules)

@@ -7,7 +7,10 @@ use Rattle.book_entries.proofs.plain_fits.Tie as tie
 
 returns : tie.Need-returns
 unfolding plain_fits
-returns c = rw (c.before.second_fits.ensures, c.last-fits.ensures)
+returns c = rw (c.second_fits.ensures, c.last_fits.ensures)
 
-pub plain-fits-spec : {M : Type 1} → statement M
-plain-fits-spec = tie.close (tie.spec (λ c κs. search rules) (λ c κs. search rules) returns)
+pub plain_fits_spec : {M : Type 1} → statement M
+plain_fits_spec = tie.close (tie.spec
+    (λ c κs. search rules)
+    (λ c κs. search rules)
+    returns)

@@ -7,11 +7,11 @@ use Rattle.circuit.proofs.tally.Statement.{statement}
 use Rattle.circuit.proofs.tally.Tie as tie
 
 -- a measurement
-returns-7 : tie.Need-returns-7
-returns-7 c = rw c.enum-told7.given.1 (refl, omega arith)
+returns-7 : tie.Need-returns-in-Measure
+returns-7 c = rw c.in-Measure.is (refl, omega arith)
 
-pub tally-spec : {M : Type 1} → statement M
-tally-spec =
+pub tally_spec : {M : Type 1} → statement M
+tally_spec =
     tie.close
     (tie.spec
     (λ c. search rules)

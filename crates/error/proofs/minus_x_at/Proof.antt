@@ -6,18 +6,18 @@ use Rattle.tableau.specs.Tableau.{part, put}
 use Rattle.error.proofs.minus_x_at.Statement.{statement}
 use Rattle.error.proofs.minus_x_at.Tie as tie
 
-minus-x-row-requires : tie.Need-minus-x-row-requires
+minus-x-row-requires : tie.Need-minus_x_row-requires
 unfolding part
 minus-x-row-requires c κs =
-    let s = c.before.before.before in
-    (s.requires.1, s.requires.2, simp add-sub_cancel_left s.requires.3, s.requires.4)
+    let s = c in
+    (s.before.before.before.requires.1, s.before.before.before.requires.2, simp add-sub_cancel_left s.before.before.before.requires.3, s.before.before.before.requires.4)
 
 returns : tie.Need-returns
 unfolding part put
-returns c = simp (c.before.before.minus-x-row.ensures, add-sub_cancel_left)
+returns c = simp (c.before.before.minus_x_row.ensures, add-sub_cancel_left)
 
-pub minus-x-at-spec : {M : Type 1} → statement M
-minus-x-at-spec =
+pub minus_x_at_spec : {M : Type 1} → statement M
+minus_x_at_spec =
     tie.close
     (tie.spec
     (λ c. search rules)

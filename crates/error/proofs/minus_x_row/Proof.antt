@@ -10,25 +10,25 @@ use Rattle.error.proofs.Gain.{gain-minus}
 use Rattle.error.proofs.minus_x_row.Statement.{statement}
 use Rattle.error.proofs.minus_x_row.Tie as tie
 
-product-requires : tie.Need-product-requires
-product-requires c κs = let s = c.before.before.before in (s.requires.3, omega arith, s.requires.2.below _ (omega arith))
+product-requires : tie.Need-product-z-requires
+product-requires c κs = let s = c in (s.requires.3, omega arith, s.requires.2.below _ (omega arith))
 
 sum-requires : tie.Need-sum-requires
 sum-requires c κs =
-    let s = c.before.before.before.before.before in
-    let low : 0 < s.args.d = omega arith in
-    (s.requires.3, s.requires.2.below _ (omega arith), rest-less _ low c.before.product.ensures)
+    let s = c in
+    let low : 0 < s.before.before.before.before.before.args.d = omega arith in
+    (s.before.before.before.before.before.requires.3, s.before.before.before.before.before.requires.2.below _ (omega arith), rest-less _ low c.before.product-z.ensures)
 
 returns : tie.Need-returns
 unfolding error_row
 returns c =
-    let s = c.before.before.before.before.before.before in
-    let a = s.args in
+    let s = c in
+    let a = s.before.before.before.before.before.before.args in
     let v = a.v.now in
-    rw (c.sum.ensures, c.before.before.product.ensures, gain-minus a.d (phase_of a.n v) (x_of v a.q) a.r (z_of a.n v a.q) (omega arith) s.requires.1)
+    rw (c.sum.ensures, c.before.before.product-z.ensures, gain-minus a.d (phase_of a.n v) (x_of v a.q) a.r (z_of a.n v a.q) (omega arith) s.before.before.before.before.before.before.requires.1)
 
-pub minus-x-row-spec : {M : Type 1} → statement M
-minus-x-row-spec =
+pub minus_x_row_spec : {M : Type 1} → statement M
+minus_x_row_spec =
     tie.close
     (tie.spec
     (λ c. search rules)

@@ -11,45 +11,45 @@ use Rattle.operation.proofs.Error.{error-keeps}
 use Rattle.error.proofs.minus_x_rows.Statement.{statement}
 use Rattle.error.proofs.minus_x_rows.Tie as tie
 
-abbrev invariant-loop : tie.invariant-loop
+abbrev invariant-loop : tie.invariant-loop-i
 invariant-loop t₀ q r tables d n rows i₀ t i =
     (i ≤ rows) × (length t ≡ length t₀) × (t ≡ each_row (every (error_row d n (minus_x d q r))) (2 * n + 1) t₀ i)
 
-abbrev decreases-loop : tie.decreases-loop
+abbrev decreases-loop : tie.decreases-loop-i
 decreases-loop t₀ q r tables d n rows i₀ t i = rows - i
 
-loop-holds : tie.Need-loop-init invariant-loop decreases-loop
+loop-holds : tie.Need-loop-i-init invariant-loop decreases-loop
 unfolding each_row
 loop-holds c = (omega arith, refl, refl)
 
-minus-x-at-requires : tie.Need-minus-x-at-requires invariant-loop decreases-loop
+minus-x-at-requires : tie.Need-minus_x_at-requires invariant-loop decreases-loop
 minus-x-at-requires c κs =
-    let s = c.before.before.before.before.before in
-    let l = c.before.before.loop in
-    let k = error-keeps s.args.d s.args.n (minus_x s.args.d s.args.q s.args.r) in (
-      turn-room _ _ _ k _ s.requires.4 l.i (omega arith) _ l.invariant.2,
-      s.requires.1,
-      s.requires.2,
-      turn-row _ _ _ k _ s.requires.4 l.i (omega arith) _ l.invariant.2,
-      s.requires.3,
+    let s = c in
+    let l = c.before.before.loop-i in
+    let k = error-keeps s.before.before.before.before.before.args.d s.before.before.before.before.before.args.n (minus_x s.before.before.before.before.before.args.d s.before.before.before.before.before.args.q s.before.before.before.before.before.args.r) in (
+      turn-room _ _ _ k _ s.before.before.before.before.before.requires.4 l.i (omega arith) _ l.invariant.2,
+      s.before.before.before.before.before.requires.1,
+      s.before.before.before.before.before.requires.2,
+      turn-row _ _ _ k _ s.before.before.before.before.before.requires.4 l.i (omega arith) _ l.invariant.2,
+      s.before.before.before.before.before.requires.3,
     )
 
-loop-again : tie.Need-loop-preserved invariant-loop decreases-loop
+loop-again : tie.Need-loop-i-preserved invariant-loop decreases-loop
 loop-again c = (
   omega arith,
   omega arith,
-  each_more _ _ _ _ _ _ c.before.before.before.before.before.loop.invariant.2 c.before.before.minus-x-at.ensures,
+  each_more _ _ _ _ _ _ c.before.before.before.before.before.loop-i.invariant.2 c.before.before.minus_x_at.ensures,
 )
 
-same_length : tie.Need-same-length invariant-loop decreases-loop
-same_length c = c.before.loop.invariant.1
+same_length : tie.Need-shape_of-t invariant-loop decreases-loop
+same_length c = c.before.loop-i.invariant.1
 
 returns : tie.Need-returns invariant-loop decreases-loop
 returns c =
-    each_all _ _ _ _ _ _ c.before.loop.invariant.2 c.before.loop.invariant.0 c.loop-test.false
+    each_all _ _ _ _ _ _ c.before.loop-i.invariant.2 c.before.loop-i.invariant.0 c.loop-i-test.false
 
-pub minus-x-rows-spec : {M : Type 1} → statement M
-minus-x-rows-spec =
+pub minus_x_rows_spec : {M : Type 1} → statement M
+minus_x_rows_spec =
     tie.close
     (tie.spec
     invariant-loop

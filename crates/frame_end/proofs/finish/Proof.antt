@@ -17,35 +17,35 @@ use Rattle.frame_end.specs.Verdict.{is_zero}
 use Rattle.frame_end.proofs.finish.Statement.{statement}
 use Rattle.frame_end.proofs.finish.Tie as tie
 
-shift-rows-requires : tie.Need-shift-rows-requires
+shift-rows-requires : tie.Need-shift_rows-requires
 shift-rows-requires c κs = search rules
 
-mul-powers : tie.Need-overflow-mul-powers
+mul-powers : tie.Need-overflow_mul-powers
 mul-powers c = search rules
 
-slice-relend-prefix-copy : tie.Need-slice-relend-prefix-copy
+slice-relend-prefix-copy : tie.Need-slice_bounds-copy-end
 slice-relend-prefix-copy c = search rules
 
-slice-aggregate-copy : tie.Need-slice-aggregate-copy
+slice-aggregate-copy : tie.Need-slice_bounds-copy-end-2
 slice-aggregate-copy c =
-    let s = c.before.before.before.before.before.before.before.before.before.before.before.before in
+    let s = c in
     sym (length-take-le (2 * s.args.n) s.args.out.now s.requires.2)
 
 copy-requires : tie.Need-copy-requires
 copy-requires c κs =
-    let s = c.before.before.before.before.before.before.before.before.before.before.before.before in
+    let s = c in
     length-take-le (2 * s.args.n) s.args.out.now s.requires.2 ∙ sym s.requires.4.len
 
 verdict-requires : tie.Need-verdict-requires
 verdict-requires c κs = search rules
 
-same_length : tie.Need-same-length
+same_length : tie.Need-shape_of-t
 same_length c = search rules
 
-same-length-2 : tie.Need-same-length-2
+same-length-2 : tie.Need-shape_of-shifts
 same-length-2 c = search rules
 
-same-length-3 : tie.Need-same-length-3
+same-length-3 : tie.Need-shape_of-out
 same-length-3 c = search rules
 
 written : (d n : ℕ) (F t rest : List ℕ) → all (is_zero n (tab (shift_at d n F t) (2 * n) ++ rest)) n ≡ all (no_shift d n F t) n
@@ -59,10 +59,10 @@ written d n F t rest =
 returns : tie.Need-returns
 unfolding verdict_of
 returns c =
-    let p = c.before.before.before.before in
-    let r = p.before.before.before.before.before.before in
-    let a = r.before.before.before.before.before.before.before.args in
-    let e = r.shift-rows.ensures in (
+    let p = c in
+    let r = p in
+    let a = r.args in
+    let e = r.shift_rows.ensures in (
       e.0,
       e.1,
       rw p.copy.ensures,

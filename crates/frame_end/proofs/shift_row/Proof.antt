@@ -10,36 +10,36 @@ use Rattle.runs.specs.Frame.{shift_row}
 use Rattle.frame_end.proofs.shift_row.Statement.{statement}
 use Rattle.frame_end.proofs.shift_row.Tie as tie
 
-mul-last : tie.Need-overflow-mul-last
+mul-last : tie.Need-overflow_mul-last
 mul-last c = search rules
 
-pairing-requires : tie.Need-pairing-requires
-pairing-requires c κs = let p = c.before.before.before.requires in (p.0, p.2, powers_of p.1, p.3)
+pairing-requires : tie.Need-pairing-shift-requires
+pairing-requires c κs = let p = c.requires in (p.0, p.2, powers_of p.1, p.3)
 
-slice-read-add : tie.Need-slice-read-add
+slice-read-add : tie.Need-bounds-v-last
 slice-read-add c = search rules
 
 add-requires : tie.Need-add-requires
 unfolding pairing
 add-requires c κs =
-    let s = c.before.before.before.before.before in
-    let small : c.before.pairing.result < s.args.d = rw c.before.pairing.ensures (mod-lt _ (omega (arith, s.requires.3.low))) in
+    let s = c in
+    let small : c.pairing-shift.result < s.args.d = rw c.pairing-shift.ensures (mod-lt _ (omega (arith, s.requires.3.low))) in
     (s.requires.3.high, s.requires.1.below _ (omega arith), omega arith)
 
-slice-write-v : tie.Need-slice-write-v
+slice-write-v : tie.Need-bounds-v-last-2
 slice-write-v c = search rules
 
-same_length : tie.Need-same-length
+same_length : tie.Need-shape_of-v
 same_length c = search rules
 
 returns : tie.Need-returns
 unfolding shift_row
 returns c =
-    let e = c.before.before.pairing.ensures in
+    let e = c.pairing-shift.ensures in
     (e, rw (c.add.ensures, e))
 
-pub shift-row-spec : {M : Type 1} → statement M
-shift-row-spec =
+pub shift_row_spec : {M : Type 1} → statement M
+shift_row_spec =
     tie.close
     (tie.spec
     mul-last

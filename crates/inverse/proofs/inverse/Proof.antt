@@ -9,25 +9,30 @@ use Rattle.modular.proofs.Listed.{inverse-below, inverse-past}
 use Rattle.inverse.proofs.inverse.Statement.{statement}
 use Rattle.inverse.proofs.inverse.Tie as tie
 
-returns : tie.Need-returns
+returns : tie.Need-returns-then-u-d
 returns c = sym (inverse-past c.before.args.d c.before.args.u (omega arith))
 
 reciprocal-requires : tie.Need-reciprocal-requires
 reciprocal-requires c κs = c.before.requires
 
-sub-power : tie.Need-overflow-sub-power
+sub-power : tie.Need-overflow_sub-d
 sub-power c = search rules
 
 power-requires : tie.Need-power-requires
 power-requires c κs = (omega arith, c.reciprocal.ensures)
 
-returns-2 : tie.Need-returns-2
+returns-2 : tie.Need-returns
 returns-2 c =
-    let s = c.before.before in
-    let d = s.before.args.d in
-    let u = s.before.args.u in
+    let s = c in
+    let d = s.before.before.before.args.d in
+    let u = s.before.before.before.args.u in
     let power : c.power.result ≡ power_of d u (d - 2) = c.power.ensures in
     power ∙ sym (inverse-below d u (omega arith))
 
-pub inverse-spec : {M : Type 1} → statement M
-inverse-spec = tie.close (tie.spec returns reciprocal-requires sub-power power-requires returns-2)
+pub inverse_spec : {M : Type 1} → statement M
+inverse_spec = tie.close (tie.spec
+    returns
+    reciprocal-requires
+    sub-power
+    power-requires
+    returns-2)

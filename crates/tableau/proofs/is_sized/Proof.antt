@@ -7,5 +7,6 @@ use Rattle.tableau.proofs.is_sized.Tie as tie
 returns : tie.Need-returns
 returns c = refl
 
-pub is-sized-spec : {M : Type 1} → statement M
-is-sized-spec = tie.close (tie.spec returns)
+pub is_sized_spec : {M : Type 1} → statement M
+is_sized_spec = tie.close (tie.spec
+    returns)

@@ -9,13 +9,13 @@ use Rattle.tables.proofs.make.Tie as tie
 returns : tie.Need-returns
 unfolding part put
 returns c =
-    let s = c.before.before.before.before.before.before.before.before.before.before.before.before.before.before in
+    let s = c in
     rw (
-      c.before.before.make-triangles.ensures,
-      c.before.before.before.before.before.before.make-products.ensures,
-      c.before.before.before.before.before.before.before.before.before.before.make-rests.ensures,
+      c.before.before.make_triangles.ensures,
+      c.before.before.before.before.before.before.make_products.ensures,
+      c.before.before.before.before.before.before.before.before.before.before.make_rests.ensures,
     )
-    (tables-made s.args.d s.requires.0 s.requires.1 s.args.tables.now s.requires.2)
+    (tables-made s.before.before.before.before.before.before.before.before.before.before.before.before.before.before.args.d s.before.before.before.before.before.before.before.before.before.before.before.before.before.before.requires.0 s.before.before.before.before.before.before.before.before.before.before.before.before.before.before.requires.1 s.before.before.before.before.before.before.before.before.before.before.before.before.before.before.args.tables.now s.before.before.before.before.before.before.before.before.before.before.before.before.before.before.requires.2)
 
 pub make_spec : {M : Type 1} → statement M
 make_spec =

@@ -8,36 +8,36 @@ use Rattle.tables.specs.Tables.{rest_at}
 use Rattle.tables.proofs.make_rests.Statement.{statement}
 use Rattle.tables.proofs.make_rests.Tie as tie
 
-abbrev invariant-loop : tie.invariant-loop
+abbrev invariant-loop : tie.invariant-loop-k
 invariant-loop rests₀ d m k₀ rests k = (k ≤ 96) × Filled (rest_at d) rests₀ k rests
 
-abbrev decreases-loop : tie.decreases-loop
+abbrev decreases-loop : tie.decreases-loop-k
 decreases-loop rests₀ d m k₀ rests k = 96 - k
 
-loop-holds : tie.Need-loop-init invariant-loop decreases-loop
+loop-holds : tie.Need-loop-k-init invariant-loop decreases-loop
 loop-holds c = (omega arith, filled_none _ _)
 
 reduce-requires : tie.Need-reduce-requires invariant-loop decreases-loop
 reduce-requires c κs = (omega arith, c.before.before.before.requires.1)
 
-slice-write-rests : tie.Need-slice-write-rests invariant-loop decreases-loop
-slice-write-rests c = omega (arith, c.before.before.loop.invariant.1.len, c.before.before.before.before.requires.0)
+slice-write-rests : tie.Need-bounds-rests-k invariant-loop decreases-loop
+slice-write-rests c = omega (arith, c.before.before.loop-k.invariant.1.len, c.before.before.before.before.requires.0)
 
-loop-again : tie.Need-loop-preserved invariant-loop decreases-loop
+loop-again : tie.Need-loop-k-preserved invariant-loop decreases-loop
 loop-again c =
-    let l = c.before.before.loop in
+    let l = c.before.before.loop-k in
     (omega arith, filled_more _ _ _ _ l.invariant.1 (omega (arith, c.before.before.before.before.requires.0)) _ c.reduce.ensures)
 
-same_length : tie.Need-same-length invariant-loop decreases-loop
-same_length c = c.before.loop.invariant.1.len
+same_length : tie.Need-shape_of-rests invariant-loop decreases-loop
+same_length c = c.before.loop-k.invariant.1.len
 
 returns : tie.Need-returns invariant-loop decreases-loop
 returns c =
-    let l = c.before.loop in
-    filled-all _ _ _ _ _ l.invariant.1 l.invariant.0 c.loop-test.false ∙ filled-whole _ _ _ c.before.before.before.requires.0
+    let l = c.before.loop-k in
+    filled-all _ _ _ _ _ l.invariant.1 l.invariant.0 c.loop-k-test.false ∙ filled-whole _ _ _ c.before.before.before.requires.0
 
-pub make-rests-spec : {M : Type 1} → statement M
-make-rests-spec =
+pub make_rests_spec : {M : Type 1} → statement M
+make_rests_spec =
     tie.close
     (tie.spec
     invariant-loop

@@ -8,5 +8,8 @@ use Rattle.tables.proofs.triangle.Tie as tie
 returns : tie.Need-returns
 returns c = let t = c.before.requires.0 in t.triangles _ (omega (arith, t.high))
 
-pub triangle-spec : {M : Type 1} → statement M
-triangle-spec = tie.close (tie.spec (λ c. search rules) (λ c. search rules) returns)
+pub triangle_spec : {M : Type 1} → statement M
+triangle_spec = tie.close (tie.spec
+    (λ c. search rules)
+    (λ c. search rules)
+    returns)

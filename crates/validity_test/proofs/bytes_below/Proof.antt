@@ -15,10 +15,10 @@ use Rattle.validity.specs.Validity.{byte_below}
 use Rattle.validity_test.proofs.bytes_below.Statement.{statement}
 use Rattle.validity_test.proofs.bytes_below.Tie as tie
 
-abbrev invariant-loop : tie.invariant-loop
+abbrev invariant-loop : tie.invariant-loop-k
 invariant-loop t count d most₀ k₀ most k = (k ≤ count) × (ltb most d ≡ all (byte_below d t) k)
 
-abbrev decreases-loop : tie.decreases-loop
+abbrev decreases-loop : tie.decreases-loop-k
 decreases-loop t count d most₀ k₀ most k = count - k
 
 -- the larger of two numbers is below d exactly if both are
@@ -32,19 +32,19 @@ larger-below x y d = by (dec_lt x y) (dec_lt x d) (dec_lt y d)
     by (no l) (yes p) q = rw (le-ltb x y (omega arith), lt-ltb x d p, lt-ltb y d (omega arith))
     by (no l) (no p) q = rw (le-ltb x y (omega arith), le-ltb x d (omega arith))
 
-loop-holds : tie.Need-loop-init invariant-loop decreases-loop
+loop-holds : tie.Need-loop-k-init invariant-loop decreases-loop
 unfolding all
 loop-holds c = (omega arith, lt-ltb _ _ c.before.requires.0)
 
-loop-again : tie.Need-loop-preserved invariant-loop decreases-loop
+loop-again : tie.Need-loop-k-preserved invariant-loop decreases-loop
 unfolding all
-loop-again c = let s = c.before.before.before.before.before in (omega arith, rw (add-one c.before.before.before.loop.k, c.larger.ensures, ← c.before.before.before.loop.invariant.1) (larger-below c.before.before.before.loop.most (get_or s.args.t.now c.before.before.before.loop.k 0) s.args.d))
+loop-again c = let s = c in (omega arith, rw (add-one c.before.before.before.loop-k.k, c.larger-most.ensures, ← c.before.before.before.loop-k.invariant.1) (larger-below c.before.before.before.loop-k.most (get_or s.args.t.now c.before.before.before.loop-k.k 0) s.args.d))
 
 returns : tie.Need-returns invariant-loop decreases-loop
-returns c = let e : c.before.loop.k ≡ c.before.before.before.args.count = omega arith in rw e at c.before.loop.invariant.1
+returns c = let e : c.before.loop-k.k ≡ c.before.before.before.args.count = omega arith in rw e at c.before.loop-k.invariant.1
 
-pub bytes-below-spec : {M : Type 1} → statement M
-bytes-below-spec =
+pub bytes_below_spec : {M : Type 1} → statement M
+bytes_below_spec =
     tie.close
     (tie.spec
     invariant-loop

@@ -11,29 +11,29 @@ use Rattle.validity.proofs.Exactly.{bytes-tableau}
 use Rattle.validity_test.proofs.is_valid.Statement.{statement}
 use Rattle.validity_test.proofs.is_valid.Tie as tie
 
-below : (c : tie.Else1) → let s = c.before.before.before in all (byte_below s.args.d s.args.t.now) (2 * s.args.n * (2 * s.args.n + 1)) ≡ true
-below c = sym c.before.bytes_below.ensures ∙ not-false _ c.if1.false
+below : (c : tie.Else-not-bytes_below) → let s = c in all (byte_below s.before.before.before.args.d s.before.before.before.args.t.now) (2 * s.before.before.before.args.n * (2 * s.before.before.before.args.n + 1)) ≡ true
+below c = sym c.before.bytes_below.ensures ∙ not-false _ c.if-not-bytes_below.false
 
-returns : tie.Need-returns
+returns : tie.Need-returns-then-not-bytes_below
 unfolding valid
-returns c = rw (sym c.before.bytes_below.ensures ∙ not-true _ c.if1.true)
+returns c = rw (sym c.before.bytes_below.ensures ∙ not-true _ c.if-not-bytes_below.true)
 
-rows-valid-requires : tie.Need-rows-valid-requires
+rows-valid-requires : tie.Need-rows_valid-requires
 rows-valid-requires c κs = let p = c.before.before.before.before.requires in (p.0, p.1, p.2, bytes-tableau _ _ _ p.3 (below c.before))
 
-returns-2 : tie.Need-returns-2
+returns-2 : tie.Need-returns-then-bytes-lt700
 unfolding valid
-returns-2 c = rw (below c.before.before) c.rows-valid.ensures
+returns-2 c = rw (below c.before.before) c.rows_valid.ensures
 
-rows-by-columns-requires : tie.Need-rows-by-columns-requires
+rows-by-columns-requires : tie.Need-rows_by_columns-requires
 rows-by-columns-requires c κs = let p = c.before.before.before.before.requires in (p.0, p.1, p.2, bytes-tableau _ _ _ p.3 (below c.before))
 
-returns-3 : tie.Need-returns-3
+returns-3 : tie.Need-returns
 unfolding valid
-returns-3 c = rw (below c.before.before) c.rows-by-columns.ensures
+returns-3 c = rw (below c.before.before) c.rows_by_columns.ensures
 
-pub is-valid-spec : {M : Type 1} → statement M
-is-valid-spec =
+pub is_valid_spec : {M : Type 1} → statement M
+is_valid_spec =
     tie.close
     (tie.spec
     (λ c. search rules)

@@ -5,7 +5,10 @@ use Rattle.validity_test.proofs.pairs_well.Statement.{statement}
 use Rattle.validity_test.proofs.pairs_well.Tie as tie
 
 returns : tie.Need-returns
-returns c = rw (c.before.pairing-at.ensures, c.wanted.ensures)
+returns c = rw (c.before.pairing_at.ensures, c.wanted.ensures)
 
-pub pairs-well-spec : {M : Type 1} → statement M
-pairs-well-spec = tie.close (tie.spec (λ c κs. search rules) (λ c κs. search rules) returns)
+pub pairs_well_spec : {M : Type 1} → statement M
+pairs_well_spec = tie.close (tie.spec
+    (λ c κs. search rules)
+    (λ c κs. search rules)
+    returns)

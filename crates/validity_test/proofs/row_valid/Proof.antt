@@ -13,29 +13,29 @@ use Rattle.validity.specs.Validity.{pairs_well, row_valid}
 use Rattle.validity_test.proofs.row_valid.Statement.{statement}
 use Rattle.validity_test.proofs.row_valid.Tie as tie
 
-abbrev invariant-loop : tie.invariant-loop
+abbrev invariant-loop : tie.invariant-loop-j
 invariant-loop t i d m n j₀ j = (j ≤ i) × (all (pairs_well d n t i) j ≡ true)
 
-abbrev decreases-loop : tie.decreases-loop
+abbrev decreases-loop : tie.decreases-loop-j
 decreases-loop t i d m n j₀ j = i - j
 
-loop-holds : tie.Need-loop-init invariant-loop decreases-loop
+loop-holds : tie.Need-loop-j-init invariant-loop decreases-loop
 unfolding all
 loop-holds c = (omega arith, refl)
 
-returns : tie.Need-returns invariant-loop decreases-loop
+returns : tie.Need-returns-then-not-pairs_well invariant-loop decreases-loop
 unfolding row_valid
-returns c = sym (all_fails _ _ _ c.before.before.loop-test.true (sym c.before.pairs-well.ensures ∙ not-true _ c.if1.true))
+returns c = sym (all_fails _ _ _ c.before.before.loop-j-test.true (sym c.before.pairs_well.ensures ∙ not-true _ c.if-not-pairs_well.true))
 
-loop-again : tie.Need-loop-preserved invariant-loop decreases-loop
-loop-again c = (omega arith, all_more _ _ c.before.before.before.loop.invariant.1 (sym c.before.pairs-well.ensures ∙ not-false _ c.if1.false))
+loop-again : tie.Need-loop-j-preserved invariant-loop decreases-loop
+loop-again c = (omega arith, all_more _ _ c.before.before.before.loop-j.invariant.1 (sym c.before.pairs_well.ensures ∙ not-false _ c.if-not-pairs_well.false))
 
-returns-2 : tie.Need-returns-2 invariant-loop decreases-loop
+returns-2 : tie.Need-returns invariant-loop decreases-loop
 unfolding row_valid
-returns-2 c = sym (ap (all _) (le_antisymm c.loop-test.false c.before.loop.invariant.0) ∙ c.before.loop.invariant.1)
+returns-2 c = sym (ap (all _) (le_antisymm c.loop-j-test.false c.before.loop-j.invariant.0) ∙ c.before.loop-j.invariant.1)
 
-pub row-valid-spec : {M : Type 1} → statement M
-row-valid-spec =
+pub row_valid_spec : {M : Type 1} → statement M
+row_valid_spec =
     tie.close
     (tie.spec
     invariant-loop

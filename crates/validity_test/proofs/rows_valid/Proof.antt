@@ -13,27 +13,27 @@ use Rattle.validity.specs.Validity.{row_valid}
 use Rattle.validity_test.proofs.rows_valid.Statement.{statement}
 use Rattle.validity_test.proofs.rows_valid.Tie as tie
 
-abbrev invariant-loop : tie.invariant-loop
+abbrev invariant-loop : tie.invariant-loop-i
 invariant-loop t d n m rows i₀ i = (i ≤ 2 * n) × (all (row_valid d n t) i ≡ true)
 
-abbrev decreases-loop : tie.decreases-loop
+abbrev decreases-loop : tie.decreases-loop-i
 decreases-loop t d n m rows i₀ i = 2 * n - i
 
-loop-holds : tie.Need-loop-init invariant-loop decreases-loop
+loop-holds : tie.Need-loop-i-init invariant-loop decreases-loop
 unfolding all
 loop-holds c = (omega arith, refl)
 
-returns : tie.Need-returns invariant-loop decreases-loop
-returns c = sym (all_fails _ _ _ c.before.before.loop-test.true (sym c.before.row-valid.ensures ∙ not-true _ c.if1.true))
+returns : tie.Need-returns-then-not-row_valid invariant-loop decreases-loop
+returns c = sym (all_fails _ _ _ c.before.before.loop-i-test.true (sym c.before.row_valid.ensures ∙ not-true _ c.if-not-row_valid.true))
 
-loop-again : tie.Need-loop-preserved invariant-loop decreases-loop
-loop-again c = (omega arith, all_more _ _ c.before.before.before.loop.invariant.1 (sym c.before.row-valid.ensures ∙ not-false _ c.if1.false))
+loop-again : tie.Need-loop-i-preserved invariant-loop decreases-loop
+loop-again c = (omega arith, all_more _ _ c.before.before.before.loop-i.invariant.1 (sym c.before.row_valid.ensures ∙ not-false _ c.if-not-row_valid.false))
 
-returns-2 : tie.Need-returns-2 invariant-loop decreases-loop
-returns-2 c = sym (ap (all _) (le_antisymm c.loop-test.false c.before.loop.invariant.0) ∙ c.before.loop.invariant.1)
+returns-2 : tie.Need-returns invariant-loop decreases-loop
+returns-2 c = sym (ap (all _) (le_antisymm c.loop-i-test.false c.before.loop-i.invariant.0) ∙ c.before.loop-i.invariant.1)
 
-pub rows-valid-spec : {M : Type 1} → statement M
-rows-valid-spec =
+pub rows_valid_spec : {M : Type 1} → statement M
+rows_valid_spec =
     tie.close
     (tie.spec
     invariant-loop

@@ -10,25 +10,25 @@ use Rattle.validity_test.specs.Sums.{sums_pair_well}
 use Rattle.validity_test.proofs.sums_valid.Statement.{statement}
 use Rattle.validity_test.proofs.sums_valid.Tie as tie
 
-abbrev invariant-loop : tie.invariant-loop
+abbrev invariant-loop : tie.invariant-loop-k
 invariant-loop plus minus i d m n good₀ k₀ good k = (k ≤ i) × (good ≡ all (sums_pair_well d n plus minus i) k)
 
-abbrev decreases-loop : tie.decreases-loop
+abbrev decreases-loop : tie.decreases-loop-k
 decreases-loop plus minus i d m n good₀ k₀ good k = i - k
 
-loop-holds : tie.Need-loop-init invariant-loop decreases-loop
+loop-holds : tie.Need-loop-k-init invariant-loop decreases-loop
 unfolding all
 loop-holds c = (omega arith, refl)
 
-loop-again : tie.Need-loop-preserved invariant-loop decreases-loop
+loop-again : tie.Need-loop-k-preserved invariant-loop decreases-loop
 unfolding all
-loop-again c = let l = c.before.before.before.before.before.loop in (omega arith, rw (add-one l.k, ← l.invariant.1, c.before.reduce-difference.ensures, c.wanted.ensures))
+loop-again c = let l = c.before.before.before.before.before.loop-k in (omega arith, rw (add-one l.k, ← l.invariant.1, c.before.reduce_difference.ensures, c.wanted.ensures))
 
 returns : tie.Need-returns invariant-loop decreases-loop
-returns c = let e : c.before.loop.k ≡ c.before.before.before.before.args.i = omega arith in rw e at c.before.loop.invariant.1
+returns c = let e : c.before.loop-k.k ≡ c.before.before.before.before.args.i = omega arith in rw e at c.before.loop-k.invariant.1
 
-pub sums-valid-spec : {M : Type 1} → statement M
-sums-valid-spec =
+pub sums_valid_spec : {M : Type 1} → statement M
+sums_valid_spec =
     tie.close
     (tie.spec
     invariant-loop
