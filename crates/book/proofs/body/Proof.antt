@@ -14,35 +14,35 @@ use Rattle.book.proofs.body.Statement.{statement}
 use Rattle.book.proofs.body.Tie as tie
 
 -- past the reading the book is accepted
-taken : (c : tie.After-enum-told) → read_book c.before.before.before.before.args.book.now ≡ answer_of (Accepted c.enum_told.given.0.0)
-taken c = sym c.before.before.read.ensures.0 ∙ ap answer_of c.enum_told.given.1
+taken : (c : tie.In-Accepted) → read_book c.args.book.now ≡ answer_of (Accepted c.in-Accepted.field-0)
+taken c = sym c.read.ensures.0 ∙ ap answer_of c.in-Accepted.is
 
-passed : (c : tie.After-enum-told) → Passed c.before.before.before.before.args.book.now (answer_of (Accepted c.enum_told.given.0.0))
+passed : (c : tie.In-Accepted) → Passed c.args.book.now (answer_of (Accepted c.in-Accepted.field-0))
 passed c = all-passed _ (no_refusal _ _ _ _ _) (taken c)
 
-lies : (c : tie.After-enum-told) → Inside c.before.before.before.before.args.book.now
+lies : (c : tie.In-Accepted) → Inside c.args.book.now
 lies c = inside _ (passed c).head (passed c).contents
 
 -- the part of kind k is what is asked for, where the kind is k
-fetched : (c : tie.After-enum-told) {k : ℕ} {part : List ℕ} → let a = c.before.before.before.before.args in
+fetched : (c : tie.In-Accepted) {k : ℕ} {part : List ℕ} → let a = c.args in
     a.kind ≡ k → part ≡ of_kind a.book.now k → part ≡ body_of a.book.now a.kind
 fetched c e h = rw (by_kind _ _ (taken c), e) h
 
 read-requires : tie.Need-read-requires
 read-requires c κs = search rules
 
-enum_told : tie.Need-enum-told
+enum_told : tie.Need-enum_told-1
 enum_told c = search rules
 
-enum-told-2 : tie.Need-enum-told-2
+enum-told-2 : tie.Need-enum_told-in_default
 enum-told-2 c = search rules
 
-slice-aggregate-result : tie.Need-slice-aggregate-result
+slice-aggregate-result : tie.Need-slice_bounds-result-end
 slice-aggregate-result c = search rules
 
-returns : tie.Need-returns
+returns : tie.Need-returns-in_default
 unfolding body_of
-returns c = rw (← c.before.before.before.read.ensures.0, c.before.enum-told2.given.1)
+returns c = rw (← c.read.ensures.0, c.in_default.is)
 
 operations-requires : tie.Need-operations-requires
 operations-requires c κs = ((lies c.before).room, (lies c.before).first)
@@ -53,25 +53,25 @@ errors-requires c κs = ((lies c.before).room, (lies c.before).second)
 choices-requires : tie.Need-choices-requires
 choices-requires c κs = ((lies c.before).room, (lies c.before).third)
 
-slice-aggregate-result-2 : tie.Need-slice-aggregate-result-2
+slice-aggregate-result-2 : tie.Need-slice_bounds-result-end-in_default-kind
 slice-aggregate-result-2 c = search rules
 
-returns-2 : tie.Need-returns-2
-returns-2 c = fetched c.before.before c.before.match2.keys1 c.operations.ensures
+returns-2 : tie.Need-returns-in-1
+returns-2 c = fetched c.before.before c.in-1.is c.operations.ensures
 
-returns-3 : tie.Need-returns-3
-returns-3 c = fetched c.before.before c.before.match2.keys2 c.errors.ensures
+returns-3 : tie.Need-returns-in-2
+returns-3 c = fetched c.before.before c.in-2.is c.errors.ensures
 
-returns-4 : tie.Need-returns-4
-returns-4 c = fetched c.before.before c.before.match2.keys3 c.choices.ensures
+returns-4 : tie.Need-returns-in-3
+returns-4 c = fetched c.before.before c.in-3.is c.choices.ensures
 
-returns-5 : tie.Need-returns-5
+returns-5 : tie.Need-returns-in_default-kind
 returns-5 c =
-    let k = c.before.match2.rest in
-    rw (by_kind _ _ (taken c.before.before), ne_eqb _ _ k.0.0.1, ne_eqb _ _ k.0.1, ne_eqb _ _ k.1)
+    let k = c.in_default-kind.in_default-kind-own.rest in
+    rw (by_kind _ _ (taken c.before), ne_eqb _ _ k.0.0.1, ne_eqb _ _ k.0.1, ne_eqb _ _ k.1)
 
-pub body-spec : {M : Type 1} → statement M
-body-spec =
+pub body_spec : {M : Type 1} → statement M
+body_spec =
     tie.close
     (tie.spec
     read-requires

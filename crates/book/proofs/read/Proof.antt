@@ -17,86 +17,86 @@ use Rattle.book.proofs.read.Statement.{statement}
 use Rattle.book.proofs.read.Tie as tie
 
 -- past each test, what it says of the book
-head : (c : tie.Else1) → header_fits c.before.before.before.args.book.now ≡ true
-head c = sym c.before.header-fits.ensures ∙ not-false _ c.if1.false
+head : (c : tie.Else-not-header_fits) → header_fits c.args.book.now ≡ true
+head c = sym c.header_fits.ensures ∙ c.if-not-header_fits.false
 
-dimension : (c : tie.After-is-listed) → let s = c.before.before.before.before.before.before.before.before.args.book.now in c.is-listed.result ≡ listed (dimension_of s)
-dimension c = c.is-listed.ensures ∙ ap listed c.before.byte-as-usize2.ensures.0
+dimension : (c : tie.After-is_listed) → let s = c.args.book.now in c.is_listed.result ≡ listed (dimension_of s)
+dimension c = c.is_listed.ensures ∙ ap listed c.byte_as_usize.ensures.0
 
-qudits : (c : tie.After-is-sized) → let s = c.before.before.before.before.before.before.before.before.before.before.args.book.now in c.is-sized.result ≡ sized (qudits_of s)
-qudits c = c.is-sized.ensures ∙ ap sized c.before.before.before.before.byte-as-usize.ensures.0
+qudits : (c : tie.After-is_sized) → let s = c.args.book.now in c.is_sized.result ≡ sized (qudits_of s)
+qudits c = c.is_sized.ensures ∙ ap sized c.byte_as_usize-n.ensures.0
 
-room : (c : tie.Else1) → 22 ≤ length c.before.before.before.args.book.now
+room : (c : tie.Else-not-header_fits) → 22 ≤ length c.args.book.now
 room c = head-room _ (head c)
 
 -- past the header the rest decides
-rest : (c : tie.Else3) → let s = c.before.before.before.before.before.before.before.before.before.before.before.args.book.now in
+rest : (c : tie.Else-not-is_sized) → let s = c.args.book.now in
     read_book s ≡ refuse_at 4 (bad_contents s) (read_bodies (dimension_of s) (qudits_of s) (part_of s operations_entry) (part_of s errors_entry) (part_of s choices_entry))
 unfolding read_book
 rest c =
     rw (
       head c.before.before.before.before.before.before.before.before,
-      sym (dimension c.before.before.before) ∙ not-false _ c.before.before.if2.false,
-      sym (qudits c.before) ∙ not-false _ c.if3.false,
+      sym (dimension c.before.before.before) ∙ c.if-not-is_listed.false,
+      sym (qudits c.before) ∙ c.if-not-is_sized.false,
     )
 
 -- past the contents the bodies lie within the book
-contents : (c : tie.After-enum-told) → let s = c.before.before.before.before.before.before.before.before.before.before.before.before.before.before.args.book.now in bad_contents s ≡ Nowhere
-contents c = sym c.before.before.bad-contents.ensures ∙ c.enum_told.given.1
+contents : (c : tie.In_default) → let s = c.args.book.now in bad_contents s ≡ Nowhere
+contents c = sym c.bad_contents.ensures ∙ c.in_default.is
 
-lies : (c : tie.After-enum-told) → let s = c.before.before.before.before.before.before.before.before.before.before.before.before.before.before.args.book.now in Inside s
-lies c = inside _ (head c.before.before.before.before.before.before.before.before.before.before.before) (contents c)
+lies : (c : tie.In_default) → let s = c.args.book.now in Inside s
+lies c = inside _ (head c.before.before.before.before.before.before.before.before.before.before) (contents c)
 
-header-fits-requires : tie.Need-header-fits-requires
+header-fits-requires : tie.Need-header_fits-requires
 header-fits-requires c κs = search rules
 
-returns : tie.Need-returns
+returns : tie.Need-returns-then-not-header_fits
 unfolding read_book
-returns c = (rw (sym c.before.header-fits.ensures ∙ not-true _ c.if1.true), refl)
+returns c = (rw (sym c.header_fits.ensures ∙ c.if-not-header_fits.true), refl)
 
-shared-slice-read-d : tie.Need-shared-slice-read-d
+shared-slice-read-d : tie.Need-bounds-book-1
 shared-slice-read-d c = omega (arith, room c.before)
 
-shared-slice-read-byte-as-usize : tie.Need-shared-slice-read-byte-as-usize
+shared-slice-read-byte-as-usize : tie.Need-bounds-book-2
 shared-slice-read-byte-as-usize c = omega (arith, room c.before.before)
 
-byte-as-usize-requires : tie.Need-byte-as-usize-requires
+byte-as-usize-requires : tie.Need-byte_as_usize-n-requires
 byte-as-usize-requires c κs = search rules
 
-byte-as-usize-requires-2 : tie.Need-byte-as-usize-requires-2
+byte-as-usize-requires-2 : tie.Need-byte_as_usize-requires
 byte-as-usize-requires-2 c κs = search rules
 
-is-listed-requires : tie.Need-is-listed-requires
+is-listed-requires : tie.Need-is_listed-requires
 is-listed-requires c κs = search rules
 
-returns-2 : tie.Need-returns-2
+returns-2 : tie.Need-returns-then-not-is_listed
 unfolding read_book
-returns-2 c = (rw (head c.before.before.before.before.before.before, sym (dimension c.before) ∙ not-true _ c.if2.true), refl)
+returns-2 c = (rw (head c.before.before.before.before.before.before, sym (dimension c.before) ∙ c.if-not-is_listed.true), refl)
 
-is-sized-requires : tie.Need-is-sized-requires
+is-sized-requires : tie.Need-is_sized-requires
 is-sized-requires c κs = search rules
 
-returns-3 : tie.Need-returns-3
+returns-3 : tie.Need-returns-then-not-is_sized
 unfolding read_book
 returns-3 c = (
   rw (
     head c.before.before.before.before.before.before.before.before,
-    sym (dimension c.before.before.before) ∙ not-false _ c.before.before.if2.false,
-    sym (qudits c.before) ∙ not-true _ c.if3.true,
+    sym (dimension c.before.before.before) ∙ c.if-not-is_listed.false,
+    sym (qudits c.before) ∙ c.if-not-is_sized.true,
   ),
   refl,
 )
 
-bad-contents-requires : tie.Need-bad-contents-requires
+bad-contents-requires : tie.Need-bad_contents-requires
 bad-contents-requires c κs = room c.before.before.before.before.before.before.before.before
 
-enum-known-place : tie.Need-enum-known-place
+enum-known-place : tie.Need-enum_known-place
 enum-known-place c = search rules
 
-returns-4 : tie.Need-returns-4
-returns-4 c = (rw (rest c.before.before.before.before, ← c.before.before.before.bad-contents.ensures, c.before.place.given.1), refl)
+returns-4 : tie.Need-returns-in-At
+returns-4 c = (rw (rest c.before.before, ← c.bad_contents.ensures, c.in-At.is), refl)
 
-enum_told : tie.Need-enum-told
+enum_told : tie.Need-enum_told-1
 enum_told c = search rules
 
 operations-requires : tie.Need-operations-requires
@@ -108,21 +108,21 @@ errors-requires c κs = ((lies c.before).room, (lies c.before).second)
 choices-requires : tie.Need-choices-requires
 choices-requires c κs = ((lies c.before.before).room, (lies c.before.before).third)
 
-read-bodies-requires : tie.Need-read-bodies-requires
+read-bodies-requires : tie.Need-read_bodies-requires
 read-bodies-requires c κs = search rules
 
-returns-5 : tie.Need-returns-5
+returns-5 : tie.Need-returns
 returns-5 c = (
   rw (
-    rest c.before.before.before.before.before.before.before,
+    rest c.before.before.before.before.before.before,
     contents c.before.before.before.before,
-    ← c.before.before.before.operations.ensures,
-    ← c.before.before.errors.ensures,
-    ← c.before.choices.ensures,
-    ← c.before.before.before.before.before.before.before.before.before.before.before.before.byte-as-usize.ensures.0,
+    ← c.operations.ensures,
+    ← c.errors.ensures,
+    ← c.choices.ensures,
+    ← c.byte_as_usize-n.ensures.0,
   )
-      c.read-bodies.ensures.0,
-  rw (← c.before.before.before.operations.ensures) c.read-bodies.ensures.1,
+      c.read_bodies.ensures.0,
+  rw (← c.operations.ensures) c.read_bodies.ensures.1,
 )
 
 pub read_spec : {M : Type 1} → statement M

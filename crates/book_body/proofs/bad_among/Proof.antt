@@ -28,63 +28,63 @@ good : (d n : ℕ) (ops : List ℕ) (k earlier : ℕ) (op : Operation) {x : Deco
 good d n ops k earlier op r e m h =
     ap (is_good (measurements ops k)) (sym r ∙ e) ∙ ap (λ (z : ℕ). named z op) (sym m) ∙ sym h
 
-abbrev invariant-loop : tie.invariant-loop
+abbrev invariant-loop : tie.invariant-loop-k
 invariant-loop ops d n count earlier₀ k₀ earlier k = (k ≤ count) × (earlier ≤ k) × (earlier ≡ measurements ops k) × (first_not (good_operation d n ops) k ≡ Nowhere)
 
-abbrev decreases-loop : tie.decreases-loop
+abbrev decreases-loop : tie.decreases-loop-k
 decreases-loop ops d n count earlier₀ k₀ earlier k = count - k
 
-loop-holds : tie.Need-loop-init invariant-loop decreases-loop
+loop-holds : tie.Need-loop-k-init invariant-loop decreases-loop
 unfolding first_not measurements
 loop-holds c = (omega arith, omega arith, refl, refl)
 
-operation-at-requires : tie.Need-operation-at-requires invariant-loop decreases-loop
+operation-at-requires : tie.Need-operation_at-requires invariant-loop decreases-loop
 operation-at-requires c κs = omega arith
 
-returns : tie.Need-returns invariant-loop decreases-loop
+returns : tie.Need-returns-in_default invariant-loop decreases-loop
 unfolding bad_operation
-returns c = found _ _ _ c.before.before.before.loop-test.true c.before.before.before.before.loop.invariant.3 (rw (← c.before.before.operation-at.ensures, c.enum_told.given.1))
+returns c = found _ _ _ c.loop-k-test.true c.loop-k.invariant.3 (rw (← c.operation_at.ensures, c.in_default.is))
 
-returns-2 : tie.Need-returns-2 invariant-loop decreases-loop
+returns-2 : tie.Need-returns-then-not-names_earlier invariant-loop decreases-loop
 unfolding bad_operation
 returns-2 c =
-    let at = c.before.before.before.before.before.before.before in
-    found _ _ _ c.before.before.before.before.before.before.loop-test.true at.loop.invariant.3
-    (good _ _ _ _ _ _ c.before.before.before.before.before.operation-at.ensures c.before.before.before.operation.given.1 at.loop.invariant.2 c.before.names-earlier.ensures ∙ not-true _ c.if1.true)
+    let at = c in
+    found _ _ _ c.loop-k-test.true at.loop-k.invariant.3
+    (good _ _ _ _ _ _ c.operation_at.ensures c.in-Good.is at.loop-k.invariant.2 c.names_earlier.ensures ∙ c.if-not-names_earlier.true)
 
-mul-one-if : tie.Need-overflow-mul-one-if invariant-loop decreases-loop
+mul-one-if : tie.Need-overflow_mul-k invariant-loop decreases-loop
 mul-one-if c = omega arith
 
-shared-slice-read-one-if : tie.Need-shared-slice-read-one-if invariant-loop decreases-loop
+shared-slice-read-one-if : tie.Need-bounds-ops-k invariant-loop decreases-loop
 shared-slice-read-one-if c = omega arith
 
-add-earlier : tie.Need-overflow-add-earlier invariant-loop decreases-loop
+add-earlier : tie.Need-overflow_add-earlier invariant-loop decreases-loop
 add-earlier c = omega arith
 
-add-k : tie.Need-overflow-add-k invariant-loop decreases-loop
+add-k : tie.Need-overflow_add-k invariant-loop decreases-loop
 add-k c = omega arith
 
-loop-less : tie.Need-loop-smaller invariant-loop decreases-loop
+loop-less : tie.Need-loop-k-smaller invariant-loop decreases-loop
 loop-less c = omega arith
 
-loop-again : tie.Need-loop-preserved invariant-loop decreases-loop
+loop-again : tie.Need-loop-k-preserved invariant-loop decreases-loop
 unfolding measurements
 loop-again c =
-    let at = c.before.before.before.before.before.before.before.before.before in (
+    let at = c in (
       omega arith,
       omega arith,
-      rw (add-one at.loop.k) (cc),
-      none_yet _ _ at.loop.invariant.3
-          (good _ _ at.before.before.args.ops.now at.loop.k _ _ c.before.before.before.before.before.before.before.operation-at.ensures c.before.before.before.before.before.operation.given.1 at.loop.invariant.2 c.before.before.before.names-earlier.ensures
-          ∙ not-false _ c.before.before.if1.false),
+      rw (add-one at.loop-k.k) (cc),
+      none_yet _ _ at.loop-k.invariant.3
+          (good _ _ at.args.ops.now at.loop-k.k _ _ c.operation_at.ensures c.in-Good.is at.loop-k.invariant.2 c.names_earlier.ensures
+          ∙ c.if-not-names_earlier.false),
     )
 
-returns-3 : tie.Need-returns-3 invariant-loop decreases-loop
+returns-3 : tie.Need-returns invariant-loop decreases-loop
 unfolding bad_operation
-returns-3 c = rw (← le_antisymm c.before.loop.invariant.0 c.loop-test.false) (sym c.before.loop.invariant.3)
+returns-3 c = rw (← le_antisymm c.loop-k.invariant.0 c.loop-k-test.false) (sym c.loop-k.invariant.3)
 
-pub bad-among-spec : {M : Type 1} → statement M
-bad-among-spec =
+pub bad_among_spec : {M : Type 1} → statement M
+bad_among_spec =
     tie.close
     (tie.spec
     invariant-loop

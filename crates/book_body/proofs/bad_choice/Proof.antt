@@ -13,47 +13,47 @@ use Rattle.search.proofs.Search.{none_yet, found}
 use Rattle.book_body.proofs.bad_choice.Statement.{statement}
 use Rattle.book_body.proofs.bad_choice.Tie as tie
 
-abbrev invariant-loop : tie.invariant-loop
+abbrev invariant-loop : tie.invariant-loop-k
 invariant-loop choices measured d count k₀ k = (k ≤ count) × (first_not (good_choice d choices) k ≡ Nowhere)
 
-abbrev decreases-loop : tie.decreases-loop
+abbrev decreases-loop : tie.decreases-loop-k
 decreases-loop choices measured d count k₀ k = count - k
 
 smaller-requires : tie.Need-smaller-requires invariant-loop decreases-loop
 smaller-requires c κs = search rules
 
-returns : tie.Need-returns invariant-loop decreases-loop
+returns : tie.Need-returns-then-count-taken invariant-loop decreases-loop
 unfolding bad_choice
-returns c = rw (ne_eqb _ _ c.before.if1.true) (ap At c.smaller.ensures)
+returns c = rw (ne_eqb _ _ c.if-count-taken.true) (ap At c.smaller.ensures)
 
-loop-holds : tie.Need-loop-init invariant-loop decreases-loop
+loop-holds : tie.Need-loop-k-init invariant-loop decreases-loop
 unfolding first_not
 loop-holds c = (omega arith, refl)
 
-shared-slice-read-if2 : tie.Need-shared-slice-read-if2 invariant-loop decreases-loop
+shared-slice-read-if2 : tie.Need-bounds-choices-k invariant-loop decreases-loop
 shared-slice-read-if2 c = omega arith
 
-returns-2 : tie.Need-returns-2 invariant-loop decreases-loop
+returns-2 : tie.Need-returns-then-choices-k invariant-loop decreases-loop
 unfolding bad_choice
 returns-2 c =
-    rw (eq-eqb _ _ c.before.before.before.before.if1.false)
-    (found _ _ _ c.before.before.loop-test.true c.before.before.before.loop.invariant.1 (le-ltb _ _ c.if2.true))
+    rw (eq-eqb _ _ c.if-count-taken.false)
+    (found _ _ _ c.loop-k-test.true c.loop-k.invariant.1 (le-ltb _ _ c.if-choices-k.true))
 
-add-k : tie.Need-overflow-add-k invariant-loop decreases-loop
+add-k : tie.Need-overflow_add-k invariant-loop decreases-loop
 add-k c = omega arith
 
-loop-less : tie.Need-loop-smaller invariant-loop decreases-loop
+loop-less : tie.Need-loop-k-smaller invariant-loop decreases-loop
 loop-less c = omega arith
 
-loop-again : tie.Need-loop-preserved invariant-loop decreases-loop
-loop-again c = (omega arith, none_yet _ _ c.before.before.before.loop.invariant.1 (lt-ltb _ _ c.if2.false))
+loop-again : tie.Need-loop-k-preserved invariant-loop decreases-loop
+loop-again c = (omega arith, none_yet _ _ c.loop-k.invariant.1 (lt-ltb _ _ c.if-choices-k.false))
 
-returns-3 : tie.Need-returns-3 invariant-loop decreases-loop
+returns-3 : tie.Need-returns invariant-loop decreases-loop
 unfolding bad_choice
-returns-3 c = rw (eq-eqb _ _ c.before.before.if1.false, ← le_antisymm c.before.loop.invariant.0 c.loop-test.false) (sym c.before.loop.invariant.1)
+returns-3 c = rw (eq-eqb _ _ c.if-count-taken.false, ← le_antisymm c.loop-k.invariant.0 c.loop-k-test.false) (sym c.loop-k.invariant.1)
 
-pub bad-choice-spec : {M : Type 1} → statement M
-bad-choice-spec =
+pub bad_choice_spec : {M : Type 1} → statement M
+bad_choice_spec =
     tie.close
     (tie.spec
     invariant-loop

@@ -15,51 +15,51 @@ use Rattle.search.proofs.Search.{none_yet, found}
 use Rattle.book_body.proofs.bad_error.Statement.{statement}
 use Rattle.book_body.proofs.bad_error.Tie as tie
 
-abbrev invariant-loop : tie.invariant-loop
+abbrev invariant-loop : tie.invariant-loop-k
 invariant-loop errors count d n end last₀ k₀ last k = (k ≤ end) × (last ≡ place_before errors k) × (first_not (good_error d n count errors) k ≡ Nowhere)
 
-abbrev decreases-loop : tie.decreases-loop
+abbrev decreases-loop : tie.decreases-loop-k
 decreases-loop errors count d n end last₀ k₀ last k = end - k
 
-loop-holds : tie.Need-loop-init invariant-loop decreases-loop
+loop-holds : tie.Need-loop-k-init invariant-loop decreases-loop
 unfolding first_not
 loop-holds c = (omega arith, refl, refl)
 
-error-at-requires : tie.Need-error-at-requires invariant-loop decreases-loop
+error-at-requires : tie.Need-error_at-e-requires invariant-loop decreases-loop
 error-at-requires c κs = omega arith
 
-error-fits-requires : tie.Need-error-fits-requires invariant-loop decreases-loop
+error-fits-requires : tie.Need-error_fits-requires invariant-loop decreases-loop
 error-fits-requires c κs = search rules
 
-returns : tie.Need-returns invariant-loop decreases-loop
+returns : tie.Need-returns-then-not-error_fits invariant-loop decreases-loop
 unfolding bad_error good_error
 returns c =
-    found _ _ _ c.before.before.before.loop-test.true c.before.before.before.before.loop.invariant.2
-    (rw (← c.before.before.before.before.loop.invariant.1, ← c.before.before.error-at.ensures)
-    (sym c.before.error-fits.ensures ∙ not-true _ c.if1.true))
+    found _ _ _ c.loop-k-test.true c.loop-k.invariant.2
+    (rw (← c.loop-k.invariant.1, ← c.error_at-e.ensures)
+    (sym c.error_fits.ensures ∙ c.if-not-error_fits.true))
 
-add-k : tie.Need-overflow-add-k invariant-loop decreases-loop
+add-k : tie.Need-overflow_add-k invariant-loop decreases-loop
 add-k c = omega arith
 
-loop-less : tie.Need-loop-smaller invariant-loop decreases-loop
+loop-less : tie.Need-loop-k-smaller invariant-loop decreases-loop
 loop-less c = omega arith
 
-loop-again : tie.Need-loop-preserved invariant-loop decreases-loop
+loop-again : tie.Need-loop-k-preserved invariant-loop decreases-loop
 unfolding good_error
 loop-again c = (
   omega arith,
-  rw (add-one c.before.before.before.before.loop.k) (ap (λ (e : WeylError). e.place) c.before.before.error-at.ensures),
-  none_yet _ _ c.before.before.before.before.loop.invariant.2
-      (rw (← c.before.before.before.before.loop.invariant.1, ← c.before.before.error-at.ensures)
-      (sym c.before.error-fits.ensures ∙ not-false _ c.if1.false)),
+  rw (add-one c.loop-k.k) (ap (λ (e : WeylError). e.place) c.error_at-e.ensures),
+  none_yet _ _ c.loop-k.invariant.2
+      (rw (← c.loop-k.invariant.1, ← c.error_at-e.ensures)
+      (sym c.error_fits.ensures ∙ c.if-not-error_fits.false)),
 )
 
-returns-2 : tie.Need-returns-2 invariant-loop decreases-loop
+returns-2 : tie.Need-returns invariant-loop decreases-loop
 unfolding bad_error
-returns-2 c = rw (← le_antisymm c.before.loop.invariant.0 c.loop-test.false) (sym c.before.loop.invariant.2)
+returns-2 c = rw (← le_antisymm c.loop-k.invariant.0 c.loop-k-test.false) (sym c.loop-k.invariant.2)
 
-pub bad-error-spec : {M : Type 1} → statement M
-bad-error-spec =
+pub bad_error_spec : {M : Type 1} → statement M
+bad_error_spec =
     tie.close
     (tie.spec
     invariant-loop

@@ -10,43 +10,43 @@ use Rattle.book_body.specs.Body.{choice_takers}
 use Rattle.book_body.proofs.choice_takers.Statement.{statement}
 use Rattle.book_body.proofs.choice_takers.Tie as tie
 
-abbrev invariant-loop : tie.invariant-loop
+abbrev invariant-loop : tie.invariant-loop-k
 invariant-loop ops count sum₀ k₀ sum k = (k ≤ count) × (sum ≤ k) × (sum ≡ choice_takers ops k)
 
-abbrev decreases-loop : tie.decreases-loop
+abbrev decreases-loop : tie.decreases-loop-k
 decreases-loop ops count sum₀ k₀ sum k = count - k
 
-loop-holds : tie.Need-loop-init invariant-loop decreases-loop
+loop-holds : tie.Need-loop-k-init invariant-loop decreases-loop
 unfolding choice_takers
 loop-holds c = (omega arith, omega arith, refl)
 
-mul-code : tie.Need-overflow-mul-code invariant-loop decreases-loop
+mul-code : tie.Need-overflow_mul-code invariant-loop decreases-loop
 mul-code c = omega arith
 
-shared-slice-read-code : tie.Need-shared-slice-read-code invariant-loop decreases-loop
+shared-slice-read-code : tie.Need-bounds-ops-k invariant-loop decreases-loop
 shared-slice-read-code c = omega arith
 
-one-if-requires : tie.Need-one-if-requires invariant-loop decreases-loop
+one-if-requires : tie.Need-one_if-sum-requires invariant-loop decreases-loop
 one-if-requires c κs = search rules
 
-add-sum : tie.Need-overflow-add-sum invariant-loop decreases-loop
+add-sum : tie.Need-overflow_add-sum invariant-loop decreases-loop
 add-sum c = omega arith
 
-add-k : tie.Need-overflow-add-k invariant-loop decreases-loop
+add-k : tie.Need-overflow_add-k invariant-loop decreases-loop
 add-k c = omega arith
 
-loop-less : tie.Need-loop-smaller invariant-loop decreases-loop
+loop-less : tie.Need-loop-k-smaller invariant-loop decreases-loop
 loop-less c = omega arith
 
-loop-again : tie.Need-loop-preserved invariant-loop decreases-loop
+loop-again : tie.Need-loop-k-preserved invariant-loop decreases-loop
 unfolding choice_takers
-loop-again c = (omega arith, omega arith, rw (add-one c.before.before.before.loop.k) (cc))
+loop-again c = (omega arith, omega arith, rw (add-one c.loop-k.k) (cc))
 
 returns : tie.Need-returns invariant-loop decreases-loop
-returns c = rw (← le_antisymm c.before.loop.invariant.0 c.loop-test.false) c.before.loop.invariant.2
+returns c = rw (← le_antisymm c.loop-k.invariant.0 c.loop-k-test.false) c.loop-k.invariant.2
 
-pub choice-takers-spec : {M : Type 1} → statement M
-choice-takers-spec =
+pub choice_takers_spec : {M : Type 1} → statement M
+choice_takers_spec =
     tie.close
     (tie.spec
     invariant-loop

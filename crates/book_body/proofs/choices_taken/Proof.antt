@@ -6,10 +6,13 @@ use Rattle.book_body.proofs.Plain.{one_each}
 use Rattle.book_body.proofs.choices_taken.Statement.{statement}
 use Rattle.book_body.proofs.choices_taken.Tie as tie
 
-returns : tie.Need-returns
+returns : tie.Need-returns-then-plain
 returns c =
-    let s = c.before.before in
-    s.requires.1 ∙ sym (one_each s.args.d s.args.n s.args.ops.now (sym s.requires.0 ∙ c.if1.true))
+    let s = c in
+    s.requires.1 ∙ sym (one_each s.args.d s.args.n s.args.ops.now (sym s.requires.0 ∙ c.if-plain.true))
 
-pub choices-taken-spec : {M : Type 1} → statement M
-choices-taken-spec = tie.close (tie.spec returns (λ c κs. search rules) (λ c. search rules))
+pub choices_taken_spec : {M : Type 1} → statement M
+choices_taken_spec = tie.close (tie.spec
+    returns
+    (λ c κs. search rules)
+    (λ c. search rules))

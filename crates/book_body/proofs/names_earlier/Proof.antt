@@ -5,11 +5,11 @@ use Rattle.book_body.proofs.names_earlier.Statement.{statement}
 use Rattle.book_body.proofs.names_earlier.Tie as tie
 
 -- a correction
-returns-9 : tie.Need-returns-9
-returns-9 c = rw c.before.operation.given.1
+returns-9 : tie.Need-returns-in-Correct
+returns-9 c = rw c.in-Correct.is
 
-pub names-earlier-spec : {M : Type 1} → statement M
-names-earlier-spec =
+pub names_earlier_spec : {M : Type 1} → statement M
+names_earlier_spec =
     tie.close
     (tie.spec
     (λ c. search rules)

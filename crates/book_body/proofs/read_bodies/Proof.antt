@@ -10,43 +10,43 @@ use Rattle.book_body.proofs.read_bodies.Statement.{statement}
 use Rattle.book_body.proofs.read_bodies.Tie as tie
 
 -- past each test its body has no bad entry
-no-bad-operation : (c : tie.After-enum-told) → let a = c.before.before.before.before.before.before.before.args in bad_operation a.d a.n a.ops.now ≡ Nowhere
-no-bad-operation c = sym c.before.before.bad-operation.ensures ∙ c.enum_told.given.1
+no-bad-operation : (c : tie.In_default) → let a = c.args in bad_operation a.d a.n a.ops.now ≡ Nowhere
+no-bad-operation c = sym c.bad_operation.ensures ∙ c.in_default.is
 
-no-bad-error : (c : tie.After-enum-told2) → let a = c.before.before.before.before.before.before.before.before.before.before.args in bad_error a.d a.n (length a.ops.now / 4) a.errors.now ≡ Nowhere
-no-bad-error c = sym c.before.before.bad-error.ensures ∙ c.enum-told2.given.1
+no-bad-error : (c : tie.In_default-bad_error) → let a = c.args in bad_error a.d a.n (length a.ops.now / 4) a.errors.now ≡ Nowhere
+no-bad-error c = sym c.bad_error.ensures ∙ c.in_default-bad_error.is
 
-returns : tie.Need-returns
+returns : tie.Need-returns-in-At
 unfolding read_bodies
-returns c = (rw (← c.before.before.before.bad-operation.ensures, c.before.place.given.1), refl)
+returns c = (rw (← c.bad_operation.ensures, c.in-At.is), refl)
 
-returns-2 : tie.Need-returns-2
+returns-2 : tie.Need-returns-in-At-bad_error
 unfolding read_bodies
-returns-2 c = (rw (no-bad-operation c.before.before.before.before, ← c.before.before.before.bad-error.ensures, c.before.place2.given.1), refl)
+returns-2 c = (rw (no-bad-operation c.before.before, ← c.bad_error.ensures, c.in-At-bad_error.is), refl)
 
-choices-taken-requires : tie.Need-choices-taken-requires
-choices-taken-requires c κs = (c.before.before.before.before.before.before.before.all_plain.ensures, c.measurements.ensures)
+choices-taken-requires : tie.Need-choices_taken-taken-requires
+choices-taken-requires c κs = (c.all_plain-plain.ensures, c.measurements-measurements.ensures)
 
-returns-3 : tie.Need-returns-3
+returns-3 : tie.Need-returns-in-At-bad_choice
 unfolding read_bodies
 returns-3 c = (
-  rw (no-bad-operation c.before.before.before.before.before.before.before.before.before, no-bad-error c.before.before.before.before.before.before, ← c.before.before.before.before.choices-taken.ensures, ← c.before.before.before.bad-choice.ensures, c.before.place3.given.1),
+  rw (no-bad-operation c.before.before.before.before.before.before, no-bad-error c.before.before.before.before, ← c.choices_taken-taken.ensures, ← c.bad_choice.ensures, c.in-At-bad_choice.is),
   refl,
 )
 
-returns-4 : tie.Need-returns-4
+returns-4 : tie.Need-returns
 unfolding read_bodies
 returns-4 c = (
-  rw (no-bad-operation c.before.before.before.before.before.before.before.before, no-bad-error c.before.before.before.before.before, ← c.before.before.before.choices-taken.ensures, ← c.before.before.bad-choice.ensures, c.enum-told3.given.1),
-  c.before.before.before.before.measurements.ensures,
+  rw (no-bad-operation c.before.before.before.before.before.before, no-bad-error c.before.before.before.before, ← c.choices_taken-taken.ensures, ← c.bad_choice.ensures, c.in_default-bad_choice.is),
+  c.measurements-measurements.ensures,
 )
 
-pub read-bodies-spec : {M : Type 1} → statement M
-read-bodies-spec =
+pub read_bodies_spec : {M : Type 1} → statement M
+read_bodies_spec =
     tie.close
     (tie.spec
     (λ c κs. search rules)
-    (λ c κs. c.all_plain.ensures)
+    (λ c κs. c.all_plain-plain.ensures)
     (λ c. search rules)
     returns
     (λ c. search rules)

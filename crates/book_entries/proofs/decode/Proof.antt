@@ -10,12 +10,12 @@ use Rattle.book_entries.proofs.decode.Tie as tie
 returns : tie.Need-returns-then-not-fits
 returns c =
     let a = c.args in
-    rw (by_fits a.d a.n a.b1 a.b2 a.b3 a.b0, sym c.before.fits2.ensures ∙ not-true _ c.if-not-fits.true)
+    rw (by_fits a.d a.n a.b1 a.b2 a.b3 a.b0, sym c.fits.ensures ∙ c.if-not-fits.true)
 
 returns-2 : tie.Need-returns
 returns-2 c =
     let a = c.args in
-    rw (by_fits a.d a.n a.b1 a.b2 a.b3 a.b0, sym c.before.before.fits2.ensures ∙ not-false _ c.if-not-fits.false, c.coded.ensures)
+    rw (by_fits a.d a.n a.b1 a.b2 a.b3 a.b0, sym c.fits.ensures ∙ c.if-not-fits.false, c.coded.ensures)
 
 pub decode_spec : {M : Type 1} → statement M
 decode_spec = tie.close (tie.spec

@@ -36,89 +36,89 @@ place-past : (es : List ℕ) (i : ℕ) → length (errors_of es) ≤ i → 65536
 unfolding place_from
 place-past es i past = rw (le-ltb _ _ past)
 
-abbrev invariant-loop : tie.invariant-loop
+abbrev invariant-loop : tie.invariant-loop-i
 invariant-loop v₀ errors j k l d n count i₀ v i =
     Passing (errors_of errors) i k × Applying d n k l j i (errors_of errors) v₀ v × Lanes d n v
 
-abbrev decreases-loop : tie.decreases-loop
+abbrev decreases-loop : tie.decreases-loop-i
 decreases-loop v₀ errors j k l d n count i₀ v i = count - i
 
-loop-holds : tie.Need-loop-init invariant-loop decreases-loop
-loop-holds c = let s = c.before.before in (s.requires.2, applying_none, s.requires.1)
+loop-holds : tie.Need-loop-i-init invariant-loop decreases-loop
+loop-holds c = let s = c in (s.requires.2, applying_none, s.requires.1)
 
-mul-word : tie.Need-overflow-mul-word invariant-loop decreases-loop
+mul-word : tie.Need-overflow_mul-i invariant-loop decreases-loop
 mul-word c = search rules
 
-word-requires : tie.Need-word-requires invariant-loop decreases-loop
+word-requires : tie.Need-word-place-requires invariant-loop decreases-loop
 word-requires c κs = search rules
 
-same_length : tie.Need-same-length invariant-loop decreases-loop
-same_length c = c.before.before.before.loop.invariant.1.len
+same_length : tie.Need-shape_of-v-then-place-k invariant-loop decreases-loop
+same_length c = c.loop-i.invariant.1.len
 
-returns : tie.Need-returns invariant-loop decreases-loop
+returns : tie.Need-returns-then-place-k invariant-loop decreases-loop
 returns c =
-    let l = c.before.before.before in
-    let s = c.before.before.before.before.before.before in
+    let l = c in
+    let s = c in
     let es = s.args.errors.now in
-    let low = c.before.before.loop-test.true in
-    let in_list : l.loop.i < length (errors_of es) = omega (arith, error-count es) in
-    let place = place_at es l.loop.i low ∙ sym c.before.word.ensures.0 in
-    let end = passing-other l.loop.invariant.0 in_list (rw place c.if1.true) s.requires.3.in_order in (
-      applying_all end l.loop.invariant.1,
-      l.loop.invariant.2,
+    let low = c.loop-i-test.true in
+    let in_list : l.loop-i.i < length (errors_of es) = omega (arith, error-count es) in
+    let place = place_at es l.loop-i.i low ∙ sym c.word-place.ensures.0 in
+    let end = passing-other l.loop-i.invariant.0 in_list (rw place c.if-place-k.true) s.requires.3.in_order in (
+      applying_all end l.loop-i.invariant.1,
+      l.loop-i.invariant.2,
       end,
-      c.before.word.ensures.0 ∙ place_inside es l.loop.i low,
-      λ h. absurd (omega (arith, c.before.word.ensures.1)),
+      c.word-place.ensures.0 ∙ place_inside es l.loop-i.i low,
+      λ h. absurd (omega (arith, c.word-place.ensures.1)),
     )
 
-error-at-requires : tie.Need-error-at-requires invariant-loop decreases-loop
+error-at-requires : tie.Need-error_at-e-requires invariant-loop decreases-loop
 error-at-requires c κs = search rules
 
-error-lane-requires : tie.Need-error-lane-requires invariant-loop decreases-loop
+error-lane-requires : tie.Need-error_lane-requires invariant-loop decreases-loop
 error-lane-requires c κs =
-    let l = c.before.before.before.before.before in
-    let s = c.before.before.before.before.before.before.before.before in
+    let l = c in
+    let s = c in
     let es = s.args.errors.now in
-    let in_list : l.loop.i < length (errors_of es) = omega (arith, error-count es) in
-    let entry = error-at es l.loop.i (omega arith) ∙ sym c.before.error-at.ensures in
-    let f = error-facts s.args.d s.args.n c.before.error-at.result (rw (← entry) (s.requires.3.each l.loop.i in_list)) in
-    let p = l.loop.invariant.2 in
+    let in_list : l.loop-i.i < length (errors_of es) = omega (arith, error-count es) in
+    let entry = error-at es l.loop-i.i (omega arith) ∙ sym c.error_at-e.ensures in
+    let f = error-facts s.args.d s.args.n c.error_at-e.result (rw (← entry) (s.requires.3.each l.loop-i.i in_list)) in
+    let p = l.loop-i.invariant.2 in
     (record { dimension = p.dimension; qudits = p.qudits; inside = s.requires.0; room = p.room; powers = p.powers _ s.requires.0 }, f.0, f.1, f.2)
 
-add-i : tie.Need-overflow-add-i invariant-loop decreases-loop
+add-i : tie.Need-overflow_add-i invariant-loop decreases-loop
 add-i c = search rules
 
-loop-less : tie.Need-loop-smaller invariant-loop decreases-loop
-loop-less c = omega (arith, c.before.before.before.before.before.before.before.loop-test.true)
+loop-less : tie.Need-loop-i-smaller invariant-loop decreases-loop
+loop-less c = omega (arith, c.loop-i-test.true)
 
-loop-again : tie.Need-loop-preserved invariant-loop decreases-loop
+loop-again : tie.Need-loop-i-preserved invariant-loop decreases-loop
 loop-again c =
-    let l = c.before.before.before.before.before.before.before.before in
-    let s = c.before.before.before.before.before.before.before.before.before.before.before in
+    let l = c in
+    let s = c in
     let a = s.args in
     let es = a.errors.now in
-    let in_list : l.loop.i < length (errors_of es) = omega (arith, error-count es) in
-    let entry = error-at es l.loop.i (omega arith) ∙ sym c.before.before.before.before.error-at.ensures in
-    let here : (err_at (errors_of es) l.loop.i).place ≡ a.k = place_at es l.loop.i (omega arith) ∙ sym c.before.before.before.before.before.before.word.ensures.0 ∙ c.before.before.before.before.before.if1.false in
-    let f = error-facts a.d a.n c.before.before.before.before.error-at.result (rw (← entry) (s.requires.3.each l.loop.i in_list)) in (
-      passing-more l.loop.invariant.0 in_list here,
-      applying_more here l.loop.invariant.1 (rw entry c.before.before.error-lane.ensures),
-      alone-lanes (λ v p. error-powers a.d a.n c.before.before.before.before.error-at.result v (omega (arith, f.1)) p) s.requires.0 l.loop.invariant.2 c.before.before.error-lane.ensures,
+    let in_list : l.loop-i.i < length (errors_of es) = omega (arith, error-count es) in
+    let entry = error-at es l.loop-i.i (omega arith) ∙ sym c.error_at-e.ensures in
+    let here : (err_at (errors_of es) l.loop-i.i).place ≡ a.k = place_at es l.loop-i.i (omega arith) ∙ sym c.word-place.ensures.0 ∙ c.if-place-k.false in
+    let f = error-facts a.d a.n c.error_at-e.result (rw (← entry) (s.requires.3.each l.loop-i.i in_list)) in (
+      passing-more l.loop-i.invariant.0 in_list here,
+      applying_more here l.loop-i.invariant.1 (rw entry c.error_lane.ensures),
+      alone-lanes (λ v p. error-powers a.d a.n c.error_at-e.result v (omega (arith, f.1)) p) s.requires.0 l.loop-i.invariant.2 c.error_lane.ensures,
     )
 
-same-length-2 : tie.Need-same-length-2 invariant-loop decreases-loop
-same-length-2 c = c.before.loop.invariant.1.len
+same-length-2 : tie.Need-shape_of-v invariant-loop decreases-loop
+same-length-2 c = c.loop-i.invariant.1.len
 
-returns-2 : tie.Need-returns-2 invariant-loop decreases-loop
+returns-2 : tie.Need-returns invariant-loop decreases-loop
 returns-2 c =
-    let l = c.before in
-    let es = c.before.before.before.before.args.errors.now in
-    let past : length (errors_of es) ≤ l.loop.i = omega (arith, error-count es) in
-    let end = passing-last l.loop.invariant.0 past in
-    (applying_all end l.loop.invariant.1, l.loop.invariant.2, end, place-past es l.loop.i past, λ h. past)
+    let l = c in
+    let es = c.args.errors.now in
+    let past : length (errors_of es) ≤ l.loop-i.i = omega (arith, error-count es) in
+    let end = passing-last l.loop-i.invariant.0 past in
+    (applying_all end l.loop-i.invariant.1, l.loop-i.invariant.2, end, place-past es l.loop-i.i past, λ h. past)
 
-pub apply-in-lane-spec : {M : Type 1} → statement M
-apply-in-lane-spec =
+pub apply_in_lane_spec : {M : Type 1} → statement M
+apply_in_lane_spec =
     tie.close
     (tie.spec
     invariant-loop

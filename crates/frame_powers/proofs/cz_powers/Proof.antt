@@ -10,30 +10,30 @@ use Rattle.frame_powers.proofs.cz_powers.Statement.{statement}
 use Rattle.frame_powers.proofs.cz_powers.Tie as tie
 
 multiple-requires : tie.Need-multiple-requires
-multiple-requires c κs = let s = c.before.before.before in (s.requires.2, s.requires.3.below _ (omega arith), s.requires.4)
+multiple-requires c κs = let s = c in (s.requires.2, s.requires.3.below _ (omega arith), s.requires.4)
 
-add-requires : tie.Need-add-requires
+add-requires : tie.Need-add-b-requires
 add-requires c κs =
-    let s = c.before.before.before.before in
+    let s = c in
     (s.requires.4.high, s.requires.3.below _ (omega arith), rest-less _ (omega (arith, s.requires.4.low)) c.multiple.ensures)
 
 multiple-requires-2 : tie.Need-multiple-requires-2
-multiple-requires-2 c κs = let s = c.before.before.before.before.before.before.before in (s.requires.2, s.requires.3.below _ (omega arith), s.requires.4)
+multiple-requires-2 c κs = let s = c in (s.requires.2, s.requires.3.below _ (omega arith), s.requires.4)
 
-add-requires-2 : tie.Need-add-requires-2
+add-requires-2 : tie.Need-add-z-requires
 add-requires-2 c κs =
-    let s = c.before.before.before.before.before.before.before.before in
-    (s.requires.4.high, s.requires.3.below _ (omega arith), rest-less _ (omega (arith, s.requires.4.low)) c.multiple2.ensures)
+    let s = c in
+    (s.requires.4.high, s.requires.3.below _ (omega arith), rest-less _ (omega (arith, s.requires.4.low)) c.multiple-2.ensures)
 
-slice-write-v-2 : tie.Need-slice-write-v-2
+slice-write-v-2 : tie.Need-bounds-v-n-4
 slice-write-v-2 c = simp length-set (omega arith)
 
 returns : tie.Need-returns
 unfolding gate_powers
-returns c = simp (c.add2.ensures, c.before.multiple2.ensures, c.before.before.before.before.add.ensures, c.before.before.before.before.before.multiple.ensures, add-mod-mod)
+returns c = simp (c.add-z.ensures, c.multiple-2.ensures, c.add-b.ensures, c.multiple.ensures, add-mod-mod)
 
-pub cz-powers-spec : {M : Type 1} → statement M
-cz-powers-spec =
+pub cz_powers_spec : {M : Type 1} → statement M
+cz_powers_spec =
     tie.close
     (tie.spec
     (λ c. search rules)

@@ -9,49 +9,49 @@ use Rattle.operation.proofs.Error.{error-powers}
 use Rattle.frame_powers.proofs.error_frame.Statement.{statement}
 use Rattle.frame_powers.proofs.error_frame.Tie as tie
 
-slice-read-add : tie.Need-slice-read-add
-slice-read-add c = let s = c.before.before in omega (arith, (error-facts _ _ s.args.e s.requires.1).0)
+slice-read-add : tie.Need-bounds-frame-q
+slice-read-add c = let s = c in omega (arith, (error-facts _ _ s.args.e s.requires.1).0)
 
-add-requires : tie.Need-add-requires
+add-requires : tie.Need-add-x-requires
 add-requires c κs =
-    let s = c.before.before in
+    let s = c in
     let f = error-facts _ _ s.args.e s.requires.1 in
     (s.requires.0, s.requires.2.below _ (omega arith), omega arith)
 
-add-add : tie.Need-overflow-add-add
-add-add c = let s = c.before.before.before in omega (arith, (error-facts _ _ s.args.e s.requires.1).0)
+add-add : tie.Need-overflow_add-n
+add-add c = let s = c in omega (arith, (error-facts _ _ s.args.e s.requires.1).0)
 
-slice-read-add-2 : tie.Need-slice-read-add-2
-slice-read-add-2 c = let s = c.before.before.before.before in omega (arith, (error-facts _ _ s.args.e s.requires.1).0)
+slice-read-add-2 : tie.Need-bounds-frame-n
+slice-read-add-2 c = let s = c in omega (arith, (error-facts _ _ s.args.e s.requires.1).0)
 
-add-requires-2 : tie.Need-add-requires-2
+add-requires-2 : tie.Need-add-z-requires
 add-requires-2 c κs =
-    let s = c.before.before.before.before in
+    let s = c in
     let f = error-facts _ _ s.args.e s.requires.1 in
     (s.requires.0, s.requires.2.below _ (omega arith), omega arith)
 
-slice-write-frame : tie.Need-slice-write-frame
-slice-write-frame c = let s = c.before.before.before.before.before in omega (arith, (error-facts _ _ s.args.e s.requires.1).0)
+slice-write-frame : tie.Need-bounds-frame-q-2
+slice-write-frame c = let s = c in omega (arith, (error-facts _ _ s.args.e s.requires.1).0)
 
-add-frame : tie.Need-overflow-add-frame
-add-frame c = let s = c.before.before.before.before.before in omega (arith, (error-facts _ _ s.args.e s.requires.1).0)
+add-frame : tie.Need-overflow_add-frame
+add-frame c = let s = c in omega (arith, (error-facts _ _ s.args.e s.requires.1).0)
 
-slice-write-frame-2 : tie.Need-slice-write-frame-2
+slice-write-frame-2 : tie.Need-bounds-frame-n-2
 slice-write-frame-2 c =
-    let s = c.before.before.before.before.before in
+    let s = c in
     simp length-set (omega (arith, (error-facts _ _ s.args.e s.requires.1).0))
 
 returns : tie.Need-returns
 unfolding error_frame
 returns c =
-    let s = c.before.before.before.before.before in
+    let s = c in
     let f = error-facts _ _ s.args.e s.requires.1 in (
-      rw (c.add2.ensures, c.before.before.add.ensures),
-      rw (c.add2.ensures, c.before.before.add.ensures) (error-powers _ _ s.args.e _ (omega arith) s.requires.2),
+      rw (c.add-z.ensures, c.add-x.ensures),
+      rw (c.add-z.ensures, c.add-x.ensures) (error-powers _ _ s.args.e _ (omega arith) s.requires.2),
     )
 
-pub error-frame-spec : {M : Type 1} → statement M
-error-frame-spec =
+pub error_frame_spec : {M : Type 1} → statement M
+error_frame_spec =
     tie.close
     (tie.spec
     slice-read-add

@@ -5,15 +5,20 @@ use borrow.Author.Rules.{rules}
 use Rattle.frame_powers.proofs.fourier_x.Statement.{statement}
 use Rattle.frame_powers.proofs.fourier_x.Tie as tie
 
-returns : tie.Need-returns
-returns c = rw c.before.match.keys1 c.negative.ensures
+returns : tie.Need-returns-in-1
+returns c = rw c.in-1.is c.negative.ensures
 
-returns-2 : tie.Need-returns-2
-returns-2 c = rw c.before.match.keys2 c.negative2.ensures
+returns-2 : tie.Need-returns-in-2
+returns-2 c = rw c.in-2.is c.negative-in-2.ensures
 
-returns-3 : tie.Need-returns-3
-returns-3 c = rw (ne_eqb _ 1 c.match.rest.0.1, ne_eqb _ 2 c.match.rest.1)
+returns-3 : tie.Need-returns-in_default
+returns-3 c = rw (ne_eqb _ 1 c.in_default.in_default-own.rest.0.1, ne_eqb _ 2 c.in_default.in_default-own.rest.1)
 
-pub fourier-x-spec : {M : Type 1} → statement M
-fourier-x-spec =
-    tie.close (tie.spec (λ c κs. search rules) (λ c κs. search rules) returns returns-2 returns-3)
+pub fourier_x_spec : {M : Type 1} → statement M
+fourier_x_spec =
+    tie.close (tie.spec
+    (λ c κs. search rules)
+    (λ c κs. search rules)
+    returns
+    returns-2
+    returns-3)

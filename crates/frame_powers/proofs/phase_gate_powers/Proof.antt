@@ -9,19 +9,19 @@ use Rattle.frame_powers.proofs.phase_gate_powers.Statement.{statement}
 use Rattle.frame_powers.proofs.phase_gate_powers.Tie as tie
 
 multiple-requires : tie.Need-multiple-requires
-multiple-requires c κs = let s = c.before.before.before in (s.requires.1, s.requires.2.below _ (omega arith), s.requires.3)
+multiple-requires c κs = let s = c in (s.requires.1, s.requires.2.below _ (omega arith), s.requires.3)
 
 add-requires : tie.Need-add-requires
 add-requires c κs =
-    let s = c.before.before.before.before in
+    let s = c in
     (s.requires.3.high, s.requires.2.below _ (omega arith), rest-less _ (omega (arith, s.requires.3.low)) c.multiple.ensures)
 
 returns : tie.Need-returns
 unfolding gate_powers
-returns c = rw (c.add.ensures, c.before.multiple.ensures, add-mod-mod)
+returns c = rw (c.add.ensures, c.multiple.ensures, add-mod-mod)
 
-pub phase-gate-powers-spec : {M : Type 1} → statement M
-phase-gate-powers-spec =
+pub phase_gate_powers_spec : {M : Type 1} → statement M
+phase_gate_powers_spec =
     tie.close
     (tie.spec
     (λ c. search rules)

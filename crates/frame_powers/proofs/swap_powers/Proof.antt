@@ -21,22 +21,22 @@ unfolding gate_powers
 exchanged d n c t v h =
     ap (λ (w : List ℕ). set w (n + t) (z_of n v c)) (set_comm (set v c (x_of v t)) t (n + c) (x_of v c) (z_of n v t) h)
 
-slice-write-v-2 : tie.Need-slice-write-v-2
+slice-write-v-2 : tie.Need-bounds-v-t-2
 slice-write-v-2 c = simp length-set (omega arith)
 
-slice-write-v-3 : tie.Need-slice-write-v-3
+slice-write-v-3 : tie.Need-bounds-v-n-3
 slice-write-v-3 c = simp length-set (omega arith)
 
-slice-write-v-4 : tie.Need-slice-write-v-4
+slice-write-v-4 : tie.Need-bounds-v-n-4
 slice-write-v-4 c = simp length-set (omega arith)
 
 returns : tie.Need-returns
 returns c =
-    let a = c.before.before.before.before.args in
+    let a = c.args in
     λ d. exchanged d a.n a.c a.t a.v.now (λ e. omega arith)
 
-pub swap-powers-spec : {M : Type 1} → statement M
-swap-powers-spec =
+pub swap_powers_spec : {M : Type 1} → statement M
+swap_powers_spec =
     tie.close
     (tie.spec
     (λ c. search rules)

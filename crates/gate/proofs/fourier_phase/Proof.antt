@@ -10,14 +10,18 @@ use Rattle.gate.proofs.fourier_phase.Tie as tie
 
 difference-requires : tie.Need-difference-requires
 difference-requires c κs =
-    let p = c.before.before.before.requires in
+    let p = c.requires in
     (p.3, p.0, rest-less _ (omega (arith, p.3.low)) c.product.ensures)
 
-returns : tie.Need-returns
-returns c = rw c.if1.true (rest 0 _ c.before.before.requires.0 (omega arith))
+returns : tie.Need-returns-then-k-eq2
+returns c = rw c.if-k-eq2.true (rest 0 _ c.requires.0 (omega arith))
 
-returns-2 : tie.Need-returns-2
-returns-2 c = rw (ne_eqb _ 2 c.before.before.if1.false, c.difference.ensures, c.before.product.ensures, mod-mod)
+returns-2 : tie.Need-returns-else-k-eq2
+returns-2 c = rw (ne_eqb _ 2 c.if-k-eq2.false, c.difference.ensures, c.product.ensures, mod-mod)
 
-pub fourier-phase-spec : {M : Type 1} → statement M
-fourier-phase-spec = tie.close (tie.spec (λ c κs. search rules) difference-requires returns returns-2)
+pub fourier_phase_spec : {M : Type 1} → statement M
+fourier_phase_spec = tie.close (tie.spec
+    (λ c κs. search rules)
+    difference-requires
+    returns
+    returns-2)

@@ -16,32 +16,32 @@ use Rattle.gate.proofs.fourier_times.Tie as tie
 thrice : (d n q k : ℕ) → allowed d n (Fourier q k) ≡ true → (Unit {0} × (k ≢ 1)) × (k ≢ 2) → k ≡ 3
 thrice d n q k h ((_, x), y) = let (_, low, high) = single-facts 4 n q k h in omega (arith, x, y)
 
-gate-all-requires : tie.Need-gate-all-requires
-gate-all-requires c κs = let p = c.before.before.before.before.requires in (p.0, record { allows = rw c.before.match.keys1 at p.1; inverts = λ e. absurd (omega arith) }, p.2, p.3)
+gate-all-requires : tie.Need-gate_all-requires
+gate-all-requires c κs = let p = c.requires in (p.0, record { allows = rw c.in-1.is at p.1; inverts = λ e. absurd (omega arith) }, p.2, p.3)
 
-gate-all-requires-2 : tie.Need-gate-all-requires-2
-gate-all-requires-2 c κs = let p = c.before.before.before.before.requires in (p.0, record { allows = rw c.before.match.keys2 at p.1; inverts = λ e. absurd (omega arith) }, p.2, p.3)
+gate-all-requires-2 : tie.Need-gate_all-requires-in-2
+gate-all-requires-2 c κs = let p = c.requires in (p.0, record { allows = rw c.in-2.is at p.1; inverts = λ e. absurd (omega arith) }, p.2, p.3)
 
-gate-all-requires-3 : tie.Need-gate-all-requires-3
+gate-all-requires-3 : tie.Need-gate_all-requires-in_default
 gate-all-requires-3 c κs =
-    let s = c.before.before.before.before in
+    let s = c in
     let p = s.requires in
-    let three = thrice s.args.d s.args.n s.args.q s.args.k p.1 c.before.match.rest in
+    let three = thrice s.args.d s.args.n s.args.q s.args.k p.1 c.in_default.in_default-own.rest in
     (p.0, record { allows = rw three at p.1; inverts = λ e. absurd (omega arith) }, p.2, p.3)
 
-returns : tie.Need-returns
-returns c = rw c.before.before.before.before.match.keys1 c.before.before.gate-all.ensures
+returns : tie.Need-returns-in-1
+returns c = rw c.in-1.is c.gate_all.ensures
 
-returns-2 : tie.Need-returns-2
-returns-2 c = rw c.before.before.before.before.match.keys2 c.before.before.gate-all2.ensures
+returns-2 : tie.Need-returns-in-2
+returns-2 c = rw c.in-2.is c.gate_all-in-2.ensures
 
-returns-3 : tie.Need-returns-3
+returns-3 : tie.Need-returns-in_default
 returns-3 c =
-    let s = c.before.before.before.before.before.before.before in
-    rw (thrice s.args.d s.args.n s.args.q s.args.k s.requires.1 c.before.before.before.before.match.rest) c.before.before.gate-all3.ensures
+    let s = c in
+    rw (thrice s.args.d s.args.n s.args.q s.args.k s.requires.1 c.in_default.in_default-own.rest) c.gate_all-in_default.ensures
 
-pub fourier-times-spec : {M : Type 1} → statement M
-fourier-times-spec =
+pub fourier_times_spec : {M : Type 1} → statement M
+fourier_times_spec =
     tie.close
     (tie.spec
     gate-all-requires

@@ -12,22 +12,22 @@ use Rattle.gate.specs.Numbered.{numbered}
 use Rattle.gate.proofs.gate_all.Statement.{statement}
 use Rattle.gate.proofs.gate_all.Tie as tie
 
-abbrev invariant-loop : tie.invariant-loop
+abbrev invariant-loop : tie.invariant-loop-i
 invariant-loop t₀ number x y k f tables d n rows i₀ t i =
     (i ≤ rows) × (length t ≡ length t₀) × (t ≡ each_row (every (gate_row d n (numbered number x y k))) (2 * n + 1) t₀ i)
 
-abbrev decreases-loop : tie.decreases-loop
+abbrev decreases-loop : tie.decreases-loop-i
 decreases-loop t₀ number x y k f tables d n rows i₀ t i = rows - i
 
-loop-holds : tie.Need-loop-init invariant-loop decreases-loop
+loop-holds : tie.Need-loop-i-init invariant-loop decreases-loop
 unfolding each_row
 loop-holds c = (omega arith, refl, refl)
 
-gate-at-requires : tie.Need-gate-at-requires invariant-loop decreases-loop
+gate-at-requires : tie.Need-gate_at-requires invariant-loop decreases-loop
 gate-at-requires c κs =
-    let s = c.before.before.before.before.before in
+    let s = c in
     let a = s.args in
-    let l = c.before.before.loop in
+    let l = c.loop-i in
     let k = gate-keeps a.d a.n (numbered a.number a.x a.y a.k) in (
       turn-room _ _ _ k _ s.requires.2 l.i (omega arith) _ l.invariant.2,
       s.requires.1,
@@ -35,22 +35,22 @@ gate-at-requires c κs =
       s.requires.3,
     )
 
-loop-again : tie.Need-loop-preserved invariant-loop decreases-loop
+loop-again : tie.Need-loop-i-preserved invariant-loop decreases-loop
 loop-again c = (
   omega arith,
   omega arith,
-  each_more _ _ _ _ _ _ c.before.before.before.before.before.loop.invariant.2 c.before.before.gate-at.ensures,
+  each_more _ _ _ _ _ _ c.loop-i.invariant.2 c.gate_at.ensures,
 )
 
-same_length : tie.Need-same-length invariant-loop decreases-loop
-same_length c = c.before.loop.invariant.1
+same_length : tie.Need-shape_of-t invariant-loop decreases-loop
+same_length c = c.loop-i.invariant.1
 
 returns : tie.Need-returns invariant-loop decreases-loop
 returns c =
-    each_all _ _ _ _ _ _ c.before.loop.invariant.2 c.before.loop.invariant.0 c.loop-test.false
+    each_all _ _ _ _ _ _ c.loop-i.invariant.2 c.loop-i.invariant.0 c.loop-i-test.false
 
-pub gate-all-spec : {M : Type 1} → statement M
-gate-all-spec =
+pub gate_all_spec : {M : Type 1} → statement M
+gate_all_spec =
     tie.close
     (tie.spec
     invariant-loop

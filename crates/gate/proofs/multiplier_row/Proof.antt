@@ -10,26 +10,26 @@ use Rattle.operation.specs.Gate.{gate_powers}
 use Rattle.gate.proofs.multiplier_row.Statement.{statement}
 use Rattle.gate.proofs.multiplier_row.Tie as tie
 
-product-requires : tie.Need-product-requires
-product-requires c κs = let s = c.before.before.before in (s.requires.4, le_of_lt s.requires.1, s.requires.3.below _ (omega arith))
+product-requires : tie.Need-product-a-requires
+product-requires c κs = let s = c in (s.requires.4, le_of_lt s.requires.1, s.requires.3.below _ (omega arith))
 
-product-requires-2 : tie.Need-product-requires-2
+product-requires-2 : tie.Need-product-b-requires
 product-requires-2 c κs =
-    let s = c.before.before.before.before.before in
+    let s = c in
     let l = inverse-below s.args.d s.args.u s.requires.1 in
     (s.requires.4, rw (s.requires.2, l) (le_of_lt (power-less _ _ _ (omega (arith, s.requires.4.low)))), s.requires.3.below _ (omega arith))
 
-slice-write-v-2 : tie.Need-slice-write-v-2
+slice-write-v-2 : tie.Need-bounds-v-n-2
 slice-write-v-2 c = simp length-set (omega arith)
 
 returns : tie.Need-returns
 unfolding gate_powers
 returns c =
-    let s = c.before.before.before.before.before.before in
-    rw (c.product2.ensures, c.before.before.product.ensures, mul_comm s.args.u, mul_comm s.args.f, s.requires.2)
+    let s = c in
+    rw (c.product-b.ensures, c.product-a.ensures, mul_comm s.args.u, mul_comm s.args.f, s.requires.2)
 
-pub multiplier-row-spec : {M : Type 1} → statement M
-multiplier-row-spec =
+pub multiplier_row_spec : {M : Type 1} → statement M
+multiplier_row_spec =
     tie.close
     (tie.spec
     (λ c. search rules)

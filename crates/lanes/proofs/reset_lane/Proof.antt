@@ -14,5 +14,10 @@ returns c =
     let x : a.q < 2 * a.n = omega arith in
     stored_is refl (stored_more a.q 0 x (stored-none c.requires.0))
 
-pub reset-lane-spec : {M : Type 1} → statement M
-reset-lane-spec = tie.close (tie.spec (λ c. search rules) (λ c. search rules) (λ c. search rules) (λ c. search rules) returns)
+pub reset_lane_spec : {M : Type 1} → statement M
+reset_lane_spec = tie.close (tie.spec
+    (λ c. search rules)
+    (λ c. search rules)
+    (λ c. search rules)
+    (λ c. search rules)
+    returns)

@@ -14,46 +14,46 @@ use Rattle.look_call.proofs.look.Statement.{statement}
 use Rattle.look_call.proofs.look.Tie as tie
 
 -- the number of the tableau test
-number : (s : tie.After-test) → s.test.result.number ≡ test_number s.before.before.args.t.now
-number s = ap (λ (a : Answer). a.number) s.test.ensures
+number : (s : tie.After-test-test) → s.test-test.result.number ≡ test_number s.args.t.now
+number s = ap (λ (a : Answer). a.number) s.test-test.ensures
 
-zero : (s : tie.After-test) → s.test.result.number ≡ 0 → test_number s.before.before.args.t.now ≡ 0
+zero : (s : tie.After-test-test) → s.test-test.result.number ≡ 0 → test_number s.args.t.now ≡ 0
 zero s e = sym (number s) ∙ e
 
 -- a tableau that passed it
-passed : (s : tie.Else1) → PassesTest s.before.before.before.before.args.t.now
-passed s = passes-test _ (zero s.before.before s.if1.false)
+passed : (s : tie.Else-test-ne0) → PassesTest s.args.t.now
+passed s = passes-test _ (zero s.before.before s.if-test-ne0.false)
 
-returns : tie.Need-returns
+returns : tie.Need-returns-then-test-ne0
 unfolding look_bytes
 returns c =
-    let s = c.before.before.before in
-    rw (c.refused.ensures, ← number s, ne_eqb _ 0 c.before.if1.true)
+    let s = c in
+    rw (c.refused.ensures, ← number s.before.before.before, ne_eqb _ 0 c.if-test-ne0.true)
 
-returns-2 : tie.Need-returns-2
+returns-2 : tie.Need-returns-then-qudit-n
 returns-2 c =
-    let b = c.before.before in
-    let o = b.before.before.before in
-    let s = o.before.before in
-    let a = s.before.before.args in
-    let many : qudits_in a.t.now ≤ a.qudit = omega (arith, b.byte-as-usize.ensures.0) in
-    rw c.refused2.ensures (not_there a.t.now a.qudit (zero s o.if1.false) many)
+    let b = c in
+    let o = b in
+    let s = o in
+    let a = s.args in
+    let many : qudits_in a.t.now ≤ a.qudit = omega (arith, b.byte_as_usize-n.ensures.0) in
+    rw c.refused-then-qudit-n.ensures (not_there a.t.now a.qudit (zero s.before.before.before.before.before.before.before o.if-test-ne0.false) many)
 
-look-rows-requires : tie.Need-look-rows-requires
+look-rows-requires : tie.Need-look_rows-requires
 look-rows-requires c κs =
-    let b = c.before in
-    let o = b.before.before.before in
-    let p = passed o in
-    rw b.byte-as-usize.ensures.0 (p.dimension, omega (arith, b.byte-as-usize.ensures.0), p.qudits, p.two, p.rows)
+    let b = c in
+    let o = b in
+    let p = passed o.before.before.before.before in
+    rw b.byte_as_usize-n.ensures.0 (p.dimension, omega (arith, b.byte_as_usize-n.ensures.0), p.qudits, p.two, p.rows)
 
-returns-3 : tie.Need-returns-3
+returns-3 : tie.Need-returns
 returns-3 c =
-    let b = c.before.before in
-    let o = b.before.before.before in
-    let s = o.before.before in
-    let a = s.before.before.args in
-    let below : a.qudit < qudits_in a.t.now = omega (arith, b.byte-as-usize.ensures.0) in
-    rw b.byte-as-usize.ensures.0 at c.look-rows.ensures ∙ looked a.t.now a.qudit (zero s o.if1.false) below
+    let b = c in
+    let o = b in
+    let s = o in
+    let a = s.args in
+    let below : a.qudit < qudits_in a.t.now = omega (arith, b.byte_as_usize-n.ensures.0) in
+    rw b.byte_as_usize-n.ensures.0 at c.look_rows.ensures ∙ looked a.t.now a.qudit (zero s.before.before.before.before.before.before.before o.if-test-ne0.false) below
 
 pub look_spec : {M : Type 1} → statement M
 look_spec =

@@ -7,26 +7,26 @@ use Rattle.look_call.specs.LookBytes.{told}
 use Rattle.look_call.proofs.look_rows.Statement.{statement}
 use Rattle.look_call.proofs.look_rows.Tie as tie
 
-look-at-requires : tie.Need-look-at-requires
+look-at-requires : tie.Need-look_at-seen-requires
 look-at-requires c κs =
-    let s = c.before.before in
+    let s = c in
     (s.requires.0, s.requires.1, s.requires.2, rw (rows-part s.args.t.now) s.requires.4)
 
-returns : tie.Need-returns
+returns : tie.Need-returns-in-Free
 returns c =
-    let l = c.before.before in
-    let e = rw (rows-part l.before.before.before.args.t.now) at l.look_at.ensures in
-    ap told (sym c.enum_told.given.1 ∙ e)
+    let l = c in
+    let e = rw (rows-part l.args.t.now) at l.look_at-seen.ensures in
+    ap told (sym c.in-Free.is ∙ e)
 
-returns-2 : tie.Need-returns-2
+returns-2 : tie.Need-returns-in-Certain
 returns-2 c =
-    let m = c.before.before in
-    let l = m.before.before in
-    let e = rw (rows-part l.before.before.before.args.t.now) at l.look_at.ensures in
-    rw c.byte-as-usize.ensures.0 (ap told (sym m.seen.given.1 ∙ e))
+    let m = c in
+    let l = m in
+    let e = rw (rows-part l.args.t.now) at l.look_at-seen.ensures in
+    rw c.byte_as_usize.ensures.0 (ap told (sym m.in-Certain.is ∙ e))
 
-pub look-rows-spec : {M : Type 1} → statement M
-look-rows-spec =
+pub look_rows_spec : {M : Type 1} → statement M
+look_rows_spec =
     tie.close
     (tie.spec
     (λ c. search rules)

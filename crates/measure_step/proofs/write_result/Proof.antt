@@ -10,8 +10,8 @@ returns : tie.Need-returns
 unfolding with_result
 returns c = refl
 
-pub write-result-spec : {M : Type 1} → statement M
-write-result-spec =
+pub write_result_spec : {M : Type 1} → statement M
+write_result_spec =
     tie.close
     (tie.spec
     (λ c. search rules)

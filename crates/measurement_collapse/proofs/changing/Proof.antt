@@ -12,45 +12,45 @@ use Rattle.measurement_collapse.proofs.Sweep.{chosen_more}
 use Rattle.measurement_collapse.proofs.changing.Statement.{statement}
 use Rattle.measurement_collapse.proofs.changing.Tie as tie
 
-abbrev invariant-loop : tie.invariant-loop
+abbrev invariant-loop : tie.invariant-loop-i
 invariant-loop list₀ t k q n w count₀ i₀ i-end list count i =
     (i ≤ 2 * n) × (count ≤ i) × (length list ≡ length list₀) × (take count list ≡ selected (is_changing n q k t) i)
 
-abbrev decreases-loop : tie.decreases-loop
+abbrev decreases-loop : tie.decreases-loop-i
 decreases-loop list₀ t k q n w count₀ i₀ i-end list count i = 2 * n - i
 
 -- the byte that is read lies in the tableau
-inside : (c : tie.In-loop invariant-loop decreases-loop) → let a = c.before.before.before.before.args in
-    c.before.loop.i * (2 * a.n + 1) + a.q < length a.t.now
+inside : (c : tie.In-loop-i invariant-loop decreases-loop) → let a = c.args in
+    c.loop-i.i * (2 * a.n + 1) + a.q < length a.t.now
 inside c =
-    let s = c.before.before.before.before in
-    omega (arith, row_in c.before.loop.i (2 * s.args.n) (2 * s.args.n + 1) c.loop-test.true, s.requires.4)
+    let s = c in
+    omega (arith, row_in c.loop-i.i (2 * s.args.n) (2 * s.args.n + 1) c.loop-i-test.true, s.requires.4)
 
-loop-holds : tie.Need-loop-init invariant-loop decreases-loop
+loop-holds : tie.Need-loop-i-init invariant-loop decreases-loop
 unfolding selected
 loop-holds c = (omega arith, omega arith, refl, refl)
 
-mul-one-if : tie.Need-overflow-mul-one-if invariant-loop decreases-loop
+mul-one-if : tie.Need-overflow_mul-i invariant-loop decreases-loop
 mul-one-if c = omega (arith, inside c)
 
-add-one-if-2 : tie.Need-overflow-add-one-if-2 invariant-loop decreases-loop
+add-one-if-2 : tie.Need-overflow_add-i invariant-loop decreases-loop
 add-one-if-2 c = omega (arith, inside c)
 
-shared-slice-read-one-if : tie.Need-shared-slice-read-one-if invariant-loop decreases-loop
+shared-slice-read-one-if : tie.Need-bounds-t-i invariant-loop decreases-loop
 shared-slice-read-one-if c = inside c.before
 
-loop-again : tie.Need-loop-preserved invariant-loop decreases-loop
+loop-again : tie.Need-loop-i-preserved invariant-loop decreases-loop
 loop-again c =
-    let l = c.before.before.before.loop in
-    (omega arith, omega arith, simp length-set l.invariant.2, chosen_more _ l.i l.list l.count _ (omega arith) l.invariant.3 c.one-if.ensures.0)
+    let l = c.loop-i in
+    (omega arith, omega arith, simp length-set l.invariant.2, chosen_more _ l.i l.list l.count _ (omega arith) l.invariant.3 c.one_if-count.ensures.0)
 
 returns : tie.Need-returns invariant-loop decreases-loop
 returns c =
-    let l = c.before.loop in
-    (omega arith, rw (← le_antisymm l.invariant.0 c.loop-test.false) l.invariant.3)
+    let l = c.loop-i in
+    (omega arith, rw (← le_antisymm l.invariant.0 c.loop-i-test.false) l.invariant.3)
 
-pub changing-spec : {M : Type 1} → statement M
-changing-spec =
+pub changing_spec : {M : Type 1} → statement M
+changing_spec =
     tie.close
     (tie.spec
     invariant-loop

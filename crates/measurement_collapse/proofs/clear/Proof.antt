@@ -13,38 +13,38 @@ use Rattle.measurement_collapse.proofs.Sweep.{chosen_less, sweep, sweep-more, sw
 use Rattle.measurement_collapse.proofs.clear.Statement.{statement}
 use Rattle.measurement_collapse.proofs.clear.Tie as tie
 
-abbrev invariant-loop : tie.invariant-loop
+abbrev invariant-loop : tie.invariant-loop-j
 invariant-loop t₀ list p xs tables c j₀ j-end t j =
     (j ≤ length list) × (length t ≡ length t₀) × Tableau c.d c.n t
     × (t ≡ sweep (cleared c.d c.n c.q (pivot_in c.n p)) (2 * c.n + 1) t₀ (take j list))
 
-abbrev decreases-loop : tie.decreases-loop
+abbrev decreases-loop : tie.decreases-loop-j
 decreases-loop t₀ list p xs tables c j₀ j-end t j = length list - j
 
 -- the number that is read is that of a row
-small : (c : tie.After-shared-slice-known5 invariant-loop decreases-loop) → let a = c.before.before.before.before.before.before.before.before.before.args in get_or a.list.now c.before.before.before.loop.j 0 < 2 * a.c.n
+small : (c : tie.After-shared_slice_known-in-loop-j-1 invariant-loop decreases-loop) → let a = c.args in get_or a.list.now c.loop-j.j 0 < 2 * a.c.n
 small c =
-    let s = c.before.before.before.before.before.before.before.before.before in
-    rw s.requires.0 (chosen_less _ (2 * s.args.c.n) c.before.before.before.loop.j (rw (← s.requires.0) c.before.before.loop-test.true))
+    let s = c in
+    rw s.requires.0 (chosen_less _ (2 * s.args.c.n) c.loop-j.j (rw (← s.requires.0) c.loop-j-test.true))
 
-loop-holds : tie.Need-loop-init invariant-loop decreases-loop
+loop-holds : tie.Need-loop-j-init invariant-loop decreases-loop
 unfolding sweep
-loop-holds c = (omega arith, refl, c.before.before.before.before.before.requires.1, refl)
+loop-holds c = (omega arith, refl, c.requires.1, refl)
 
-cast-clear-at : tie.Need-overflow-cast-clear-at invariant-loop decreases-loop
-cast-clear-at c = omega (arith, small c, c.before.before.before.before.before.before.before.before.before.requires.3.operands.size)
+cast-clear-at : tie.Need-overflow_cast-list invariant-loop decreases-loop
+cast-clear-at c = omega (arith, small c, c.requires.3.operands.size)
 
-clear-at-requires : tie.Need-clear-at-requires invariant-loop decreases-loop
+clear-at-requires : tie.Need-clear_at-requires invariant-loop decreases-loop
 clear-at-requires c κs =
-    let s = c.before.before.before.before.before.before.before.before.before in
-    (small c, c.before.before.before.loop.invariant.2, s.requires.2, s.requires.3, s.requires.4)
+    let s = c in
+    (small c, c.loop-j.invariant.2, s.requires.2, s.requires.3, s.requires.4)
 
-loop-again : tie.Need-loop-preserved invariant-loop decreases-loop
+loop-again : tie.Need-loop-j-preserved invariant-loop decreases-loop
 loop-again c =
-    let s = c.before.before.before.before.before.before.before.before.before.before.before.before in
+    let s = c in
     let a = s.args.c in
-    let l = c.before.before.before.before.before.before.loop in
-    let e = c.before.before.clear_at.ensures in (
+    let l = c.loop-j in
+    let e = c.clear_at.ensures in (
       omega arith,
       omega arith,
       rw e (tableau-put _ _ l.t l.invariant.2 _ (small c.before.before.before) _ (cleared-row a.d a.n a.q _ _ (omega (arith, s.requires.2.low)))),
@@ -53,12 +53,12 @@ loop-again c =
 
 returns : tie.Need-returns invariant-loop decreases-loop
 returns c =
-    let s = c.before.before.before.before.before.before.before in
+    let s = c in
     let a = s.args in
-    let l = c.before.loop in
+    let l = c.loop-j in
     let f = cleared a.c.d a.c.n a.c.q (pivot_in a.c.n a.p.now) in (
       l.invariant.3
-          ∙ ap (λ (x : ℕ). sweep f (2 * a.c.n + 1) a.t.now (take x a.list.now)) (le_antisymm l.invariant.0 c.loop-test.false)
+          ∙ ap (λ (x : ℕ). sweep f (2 * a.c.n + 1) a.t.now (take x a.list.now)) (le_antisymm l.invariant.0 c.loop-j-test.false)
           ∙ ap (sweep f (2 * a.c.n + 1) a.t.now) (take-length a.list.now ∙ s.requires.0)
           ∙ sweep-chosen f (2 * a.c.n + 1) a.t.now _ (2 * a.c.n),
       l.invariant.2,

@@ -29,28 +29,28 @@ byte s =
     rw (← row_at a.c.n a.t.now a.i a.c.q q) ((tableau-row _ _ _ s.requires.1 a.i s.requires.0).below a.c.q q)
 
 -- the exponent, made of the row's power on q
-is : (c : tie.After-product) → let a = c.before.before.before.before.before.before.before.before.before.args in
-    c.product.result ≡ (a.c.d - a.c.inv) * get_or a.t.now (a.i * (2 * a.c.n + 1) + a.c.q) 0 % a.c.d
-is c = c.product.ensures
+is : (c : tie.After-product-h) → let a = c.args in
+    c.product-h.result ≡ (a.c.d - a.c.inv) * get_or a.t.now (a.i * (2 * a.c.n + 1) + a.c.q) 0 % a.c.d
+is c = c.product-h.ensures
 
-small : (c : tie.After-product) → c.product.result < c.before.before.before.before.before.before.before.before.before.args.c.d
-small c = rest-less _ (omega (arith, c.before.before.before.before.before.before.before.before.before.requires.2.low)) (is c)
+small : (c : tie.After-product-h) → c.product-h.result < c.args.c.d
+small c = rest-less _ (omega (arith, c.requires.2.low)) (is c)
 
-multiple : (c : tie.After-product) → let a = c.before.before.before.before.before.before.before.before.before.args in
-    Multiple a.c.d a.c.n c.product.result a.xs.now (part (c.product.result * 144) (2 * a.c.n + 1) a.p.now)
+multiple : (c : tie.After-product-h) → let a = c.args in
+    Multiple a.c.d a.c.n c.product-h.result a.xs.now (part (c.product-h.result * 144) (2 * a.c.n + 1) a.p.now)
 multiple c =
-    let s = c.before.before.before.before.before.before.before.before.before in
+    let s = c in
     let g = s.requires.3 in
     rw (stored-power _ _ _ _ g.powers g.operands.size _ (small c)) (power-multiple _ _ _ g.pivot _ _ s.requires.4)
 
 -- the product is what is asked for
-made : (c : tie.After-product) → let s = c.before.before.before.before.before.before.before.before.before in
+made : (c : tie.After-product-h) → let s = c in
     let a = s.args in
-    product a.c.d a.c.n (row a.c.n a.t.now a.i) (part (c.product.result * 144) (2 * a.c.n + 1) a.p.now)
+    product a.c.d a.c.n (row a.c.n a.t.now a.i) (part (c.product-h.result * 144) (2 * a.c.n + 1) a.p.now)
     ≡ cleared a.c.d a.c.n a.c.q (pivot_in a.c.n a.p.now) (row a.c.n a.t.now a.i)
 unfolding cleared
 made c =
-    let s = c.before.before.before.before.before.before.before.before.before in
+    let s = c in
     let a = s.args in
     let g = s.requires.3 in
     let d = a.c.d in
@@ -60,52 +60,52 @@ made c =
     (stored-power _ _ _ _ g.powers g.operands.size _ (small c)
     ∙ ap (λ (x : ℕ). power d a.c.n x (pivot_in a.c.n a.p.now))
     (is c
-    ∙ exponent d a.c.inv _ g.small (byte s)
+    ∙ exponent d a.c.inv _ g.small (byte s.before.before.before.before.before.before.before.before.before)
     ∙ ap (λ (x : ℕ). neg d x * a.c.inv % d) (sym e)
     ∙ ap (λ (x : ℕ). neg d (x_of v a.c.q) * x % d) g.inverts))
 
-mul-w : tie.Need-overflow-mul-w
+mul-w : tie.Need-overflow_mul-w
 mul-w c = omega (arith, room c.before.before.before.before.before)
 
-add-w : tie.Need-overflow-add-w
+add-w : tie.Need-overflow_add-w
 add-w c = omega (arith, room c.before.before.before.before.before)
 
-mul-s : tie.Need-overflow-mul-s
+mul-s : tie.Need-overflow_mul-s
 mul-s c = omega (arith, room c.before.before.before.before.before)
 
-add-e : tie.Need-overflow-add-e
+add-e : tie.Need-overflow_add-e
 add-e c = omega (arith, room c.before.before.before.before.before)
 
-sub-product : tie.Need-overflow-sub-product
-sub-product c = omega (arith, c.before.before.before.before.before.before.requires.3.small)
+sub-product : tie.Need-overflow_sub-c
+sub-product c = omega (arith, c.requires.3.small)
 
-add-product : tie.Need-overflow-add-product
-add-product c = omega (arith, room c.before.before.before.before.before.before.before, c.before.before.before.before.before.before.before.requires.3.operands.qudit)
+add-product : tie.Need-overflow_add-s
+add-product c = omega (arith, room c.before.before.before.before.before.before.before, c.requires.3.operands.qudit)
 
-slice-read-product : tie.Need-slice-read-product
-slice-read-product c = omega (arith, room c.before.before.before.before.before.before.before.before, c.before.before.before.before.before.before.before.before.requires.3.operands.qudit)
+slice-read-product : tie.Need-bounds-t-s
+slice-read-product c = omega (arith, room c.before.before.before.before.before.before.before.before, c.requires.3.operands.qudit)
 
-product-requires : tie.Need-product-requires
-product-requires c κs = (c.before.before.before.before.before.before.before.before.requires.2, sub-le _ _, byte c.before.before.before.before.before.before.before.before)
+product-requires : tie.Need-product-h-requires
+product-requires c κs = (c.requires.2, sub-le _ _, byte c.before.before.before.before.before.before.before.before)
 
-mul-a : tie.Need-overflow-mul-a
-mul-a c = omega (arith, small c, c.before.before.before.before.before.before.before.before.before.requires.2.high)
+mul-a : tie.Need-overflow_mul-a
+mul-a c = omega (arith, small c, c.requires.2.high)
 
-add-b : tie.Need-overflow-add-b
-add-b c = omega (arith, small c, c.before.before.before.before.before.before.before.before.before.requires.2.high, room c.before.before.before.before.before.before.before.before.before)
+add-b : tie.Need-overflow_add-b
+add-b c = omega (arith, small c, c.requires.2.high, room c.before.before.before.before.before.before.before.before.before)
 
-part-product-end : tie.Need-slice-bounds-product-end
+part-product-end : tie.Need-slice_bounds-product-end
 part-product-end c = omega (arith, room c.before.before.before.before.before.before.before.before.before)
 
-part-product-end-2 : tie.Need-slice-bounds-product-end-2
+part-product-end-2 : tie.Need-slice_bounds-product-end-2
 part-product-end-2 c =
-    let g = c.before.before.before.before.before.before.before.before.before.before.requires.3 in
+    let g = c.requires.3 in
     stored-room _ _ _ _ g.powers g.operands.size _ (small c.before)
 
-product-requires-2 : tie.Need-product-requires-2
+product-requires-2 : tie.Need-product-requires
 unfolding part
 product-requires-2 c κs =
-    let s = c.before.before.before.before.before.before.before.before.before.before.before in
+    let s = c in
     let g = s.requires.3 in
     let l = small c.before.before in (
       g.operands.size,
@@ -121,12 +121,12 @@ product-requires-2 c κs =
 returns : tie.Need-returns
 unfolding part put
 returns c =
-    let s = c.before.before.before.before.before.before.before.before.before.before.before.before.before.before in
+    let s = c in
     let w = 2 * s.args.c.n + 1 in
-    simp (c.before.before.product2.ensures, add-sub_cancel_left) (ap (λ (v : List ℕ). put (s.args.i * w) w v s.args.t.now) (made c.before.before.before.before.before))
+    simp (c.product.ensures, add-sub_cancel_left) (ap (λ (v : List ℕ). put (s.args.i * w) w v s.args.t.now) (made c.before.before.before.before.before))
 
-pub clear-at-spec : {M : Type 1} → statement M
-clear-at-spec =
+pub clear_at_spec : {M : Type 1} → statement M
+clear_at_spec =
     tie.close
     (tie.spec
     mul-w

@@ -23,84 +23,84 @@ room s = row_room s.args.n s.args.t.now s.requires.2.room (s.args.n + s.args.k) 
 -- the measurement, and the powers of its pivot
 abbrev numbers : tie.After-powers → Measurement
 numbers c =
-    let a = c.before.before.before.before.before.before.before.before.before.args in
-    record { q = a.q; k = a.k; choice = a.choice; inv = c.before.before.before.before.before.inverse.result; d = a.d; m = c.before.before.before.before.wide-reciprocal.result; n = a.n }
+    let a = c.args in
+    record { q = a.q; k = a.k; choice = a.choice; inv = c.inverse-inv.result; d = a.d; m = c.wide_reciprocal-m.result; n = a.n }
 
-holds : (c : tie.After-powers) → let a = c.before.before.before.before.before.before.before.before.before.args in
-    (pivot_in a.n c.powers.new.0 ≡ row a.n a.t.now (a.n + a.k)) × FreeMeasurement (numbers c) c.powers.new.0
+holds : (c : tie.After-powers) → let a = c.args in
+    (pivot_in a.n c.powers.new.p ≡ row a.n a.t.now (a.n + a.k)) × FreeMeasurement (numbers c) c.powers.new.p
 unfolding part
 holds c =
-    let s = c.before.before.before.before.before.before.before.before.before in
+    let s = c in
     let p = s.requires in
     let t = s.args.t.now in
-    prepared (numbers c) t _ p.0 c.before.before.before.before.wide-reciprocal.ensures p.2
-    c.before.before.before.before.before.inverse.ensures
+    prepared (numbers c) t _ p.0 c.wide_reciprocal-m.ensures p.2
+    c.inverse-inv.ensures
     (simp add-sub_cancel_left at c.powers.ensures)
 
-mul-s : tie.Need-overflow-mul-s
+mul-s : tie.Need-overflow_mul-s
 mul-s c = omega (arith, room c.before.before)
 
-add-e : tie.Need-overflow-add-e
+add-e : tie.Need-overflow_add-e
 add-e c = omega (arith, room c.before.before)
 
-add-inverse : tie.Need-overflow-add-inverse
+add-inverse : tie.Need-overflow_add-s-2
 add-inverse c = omega (arith, room c.before.before)
 
-slice-read-inverse : tie.Need-slice-read-inverse
+slice-read-inverse : tie.Need-bounds-t-s
 slice-read-inverse c = omega (arith, room c.before.before.before)
 
-wide-reciprocal-requires : tie.Need-wide-reciprocal-requires
-wide-reciprocal-requires c κs = let e = c.before.before.before.before.requires.1 in (e.low, e.high)
+wide-reciprocal-requires : tie.Need-wide_reciprocal-m-requires
+wide-reciprocal-requires c κs = let e = c.requires.1 in (e.low, e.high)
 
-slice-aggregate-powers : tie.Need-slice-aggregate-powers
+slice-aggregate-powers : tie.Need-slice_bounds-powers-end
 slice-aggregate-powers c = refl
 
-part-powers-end : tie.Need-slice-bounds-powers-end
-part-powers-end c = omega (arith, room c.before.before.before.before.before.before.before)
+part-powers-end : tie.Need-slice_bounds-powers-end-2
+part-powers-end c = omega (arith, room c.before.before.before.before.before.before)
 
 powers-requires : tie.Need-powers-requires
 unfolding part
 powers-requires c κs =
-    let s = c.before.before.before.before.before.before.before.before in
+    let s = c in
     let p = s.requires in
-    let m = c.before.before.before.wide-reciprocal.ensures in
+    let m = c.wide_reciprocal-m.ensures in
     let r = tableau-row _ _ s.args.t.now p.2 (s.args.n + s.args.k) (omega (arith, p.0.stabilizer)) in
     (record { high = m.high; size = p.0.size; row = simp add-sub_cancel_left r }, m, powers-none _ _ _ 4464 (omega (arith, m.low)) p.0.size (omega (arith, m.high)))
 
-slice-aggregate-widen : tie.Need-slice-aggregate-widen
+slice-aggregate-widen : tie.Need-slice_bounds-widen-end
 slice-aggregate-widen c = refl
 
-part-widen-end : tie.Need-slice-bounds-widen-end
-part-widen-end c = omega (arith, room c.before.before.before.before.before.before.before.before.before.before.before.before)
+part-widen-end : tie.Need-slice_bounds-widen-end-2
+part-widen-end c = omega (arith, room c.before.before.before.before.before.before.before.before.before.before)
 
-slice-aggregate-changing : tie.Need-slice-aggregate-changing
+slice-aggregate-changing : tie.Need-slice_bounds-changing-end
 slice-aggregate-changing c = refl
 
-slice-aggregate-clear : tie.Need-slice-aggregate-clear
-slice-aggregate-clear c = sym (length-take-le _ c.before.before.before.changing.new.0 (omega arith))
+slice-aggregate-clear : tie.Need-slice_bounds-clear-end
+slice-aggregate-clear c = sym (length-take-le _ c.changing-count.new.list (omega arith))
 
 clear-requires : tie.Need-clear-requires
 unfolding part
 clear-requires c κs =
-    let g = c.before.before.before.before.before.before.before.before.before.before.before.before.before.before in
-    let p = g.before.before.before.before.before.before.before.before.before.requires in
-    let h = holds g in
-    (c.before.before.before.before.before.changing.ensures.1, p.2, p.1, h.1, rw h.0 (widened _ _ (replicate 64 0) p.0.size (simp add-sub_cancel_left at c.before.before.before.before.before.before.before.before.before.widen.ensures)))
+    let g = c in
+    let p = g.requires in
+    let h = holds g.before.before.before.before.before.before.before.before.before.before.before.before in
+    (c.changing-count.ensures.1, p.2, p.1, h.1, rw h.0 (widened _ _ (replicate 64 0) p.0.size (simp add-sub_cancel_left at c.widen.ensures)))
 
 replace-requires : tie.Need-replace-requires
-replace-requires c κs = (c.before.before.before.before.clear.ensures.1, (holds c.before.before.before.before.before.before.before.before.before.before.before.before.before.before.before.before.before.before.before).1)
+replace-requires c κs = (c.clear.ensures.1, (holds c.before.before.before.before.before.before.before.before.before.before.before.before.before.before.before.before.before).1)
 
 returns : tie.Need-returns
 returns c =
-    let g = c.before.before.before.before.before.before.before.before.before.before.before.before.before.before.before.before.before.before.before.before.before.before in
-    let s = g.before.before.before.before.before.before.before.before.before in
+    let g = c in
+    let s = g in
     let p = s.requires in
-    let h = holds g in
-    let u = c.before.before.before.before.before.before.before.clear.ensures in
-    measured-is _ _ _ _ _ _ _ s.args.t.now _ p.2 (omega (arith, h.1.reciprocal.low)) p.0.qudit p.0.stabilizer h.1.inverts u.1 u.0 _ c.before.before.replace.ensures h.0
+    let h = holds g.before.before.before.before.before.before.before.before.before.before.before.before.before.before.before.before.before.before.before.before in
+    let u = c.clear.ensures in
+    measured-is _ _ _ _ _ _ _ s.args.t.now _ p.2 (omega (arith, h.1.reciprocal.low)) p.0.qudit p.0.stabilizer h.1.inverts u.1 u.0 _ c.replace.ensures h.0
 
-pub collapse-spec : {M : Type 1} → statement M
-collapse-spec =
+pub collapse_spec : {M : Type 1} → statement M
+collapse_spec =
     tie.close
     (tie.spec
     (λ c. omega arith)

@@ -25,66 +25,66 @@ room s =
 power-room : (s : tie.Start) → s.args.c.inv * 144 + (2 * s.args.c.n + 1) ≤ length s.args.p.now
 power-room s = let g = s.requires.1 in stored-room _ _ _ _ g.powers g.operands.size _ g.small
 
-mul-w : tie.Need-overflow-mul-w
-mul-w c = omega (arith, c.before.before.before.requires.1.operands.size)
+mul-w : tie.Need-overflow_mul-w
+mul-w c = omega (arith, c.requires.1.operands.size)
 
-add-w : tie.Need-overflow-add-w
-add-w c = omega (arith, c.before.before.before.requires.1.operands.size)
+add-w : tie.Need-overflow_add-w
+add-w c = omega (arith, c.requires.1.operands.size)
 
-mul-a : tie.Need-overflow-mul-a
+mul-a : tie.Need-overflow_mul-a
 mul-a c = omega (arith, power-room c.before.before.before.before)
 
-add-b : tie.Need-overflow-add-b
+add-b : tie.Need-overflow_add-b
 add-b c = omega (arith, power-room c.before.before.before.before)
 
-mul-s : tie.Need-overflow-mul-s
+mul-s : tie.Need-overflow_mul-s
 mul-s c = omega (arith, (room c.before.before.before.before.before).0)
 
-add-e : tie.Need-overflow-add-e
+add-e : tie.Need-overflow_add-e
 add-e c = omega (arith, (room c.before.before.before.before.before).0)
 
-part-copy-end : tie.Need-slice-bounds-copy-end
+part-copy-end : tie.Need-slice_bounds-copy-end
 part-copy-end c = omega (arith, (room c.before.before.before.before.before).0)
 
-part-copy-end-2 : tie.Need-slice-bounds-copy-end-2
+part-copy-end-2 : tie.Need-slice_bounds-copy-end-2
 part-copy-end-2 c = omega (arith, power-room c.before.before.before.before.before.before)
 
 copy-requires : tie.Need-copy-requires
 unfolding part
 copy-requires c κs =
-    let s = c.before.before.before.before.before.before.before in
-    simp add-sub_cancel_left (part_length _ _ _ (room s).0 ∙ sym (part_length _ _ _ (power-room s)))
+    let s = c in
+    simp add-sub_cancel_left (part_length _ _ _ (room s.before.before.before.before.before.before.before).0 ∙ sym (part_length _ _ _ (power-room s.before.before.before.before.before.before.before)))
 
-add-f : tie.Need-overflow-add-f
-add-f c = omega (arith, c.before.before.before.before.before.before.before.before.before.before.before.requires.1.operands.size, c.before.before.before.before.before.before.before.before.before.before.before.requires.1.operands.stabilizer)
+add-f : tie.Need-overflow_add-f
+add-f c = omega (arith, c.requires.1.operands.size, c.requires.1.operands.stabilizer)
 
-mul-f : tie.Need-overflow-mul-f
+mul-f : tie.Need-overflow_mul-f
 mul-f c = omega (arith, (room c.before.before.before.before.before.before.before.before.before.before.before).1)
 
-add-g : tie.Need-overflow-add-g
+add-g : tie.Need-overflow_add-g
 add-g c = omega (arith, (room c.before.before.before.before.before.before.before.before.before.before.before).1)
 
-part-unit-row-end : tie.Need-slice-bounds-unit-row-end
+part-unit-row-end : tie.Need-slice_bounds-unit_row-end
 part-unit-row-end c = omega (arith, (room c.before.before.before.before.before.before.before.before.before.before.before).1)
 
-add-unit-row : tie.Need-overflow-add-unit-row
-add-unit-row c = omega (arith, c.before.before.before.before.before.before.before.before.before.before.before.before.before.requires.1.operands.size, c.before.before.before.before.before.before.before.before.before.before.before.before.before.requires.1.operands.qudit)
+add-unit-row : tie.Need-overflow_add-c
+add-unit-row c = omega (arith, c.requires.1.operands.size, c.requires.1.operands.qudit)
 
 negative-requires : tie.Need-negative-requires
-negative-requires c κs = c.before.before.before.before.before.before.before.before.before.before.before.before.before.requires.1.operands.below
+negative-requires c κs = c.requires.1.operands.below
 
-unit-row-requires : tie.Need-unit-row-requires
+unit-row-requires : tie.Need-unit_row-requires
 unit-row-requires c κs =
-    let g = c.before.before.before.before.before.before.before.before.before.before.before.before.before.before.requires.1 in
+    let g = c.requires.1 in
     (omega (arith, g.operands.qudit), omega arith)
 
 returns : tie.Need-returns
 unfolding part put z_with
 returns c =
-    let s = c.before.before.before.before.before.before.before.before.before.before.before.before.before.before.before.before.before in
+    let s = c in
     let g = s.requires.1 in
     let w = stored-power _ _ _ _ g.powers g.operands.size _ g.small in
-    simp (c.before.before.unit_row.ensures, c.before.before.before.before.before.before.before.before.before.copy.ensures, c.before.before.before.negative.ensures, ← w, add-sub_cancel_left)
+    simp (c.unit_row.ensures, c.copy.ensures, c.negative.ensures, ← w, add-sub_cancel_left)
 
 pub replace_spec : {M : Type 1} → statement M
 replace_spec =

@@ -9,36 +9,36 @@ use Rattle.row.proofs.Fill.{Filled, filled_none, filled_more, filled-all, filled
 use Rattle.mirror_writer.proofs.make_inverses.Statement.{statement}
 use Rattle.mirror_writer.proofs.make_inverses.Tie as tie
 
-abbrev invariant-loop : tie.invariant-loop
+abbrev invariant-loop : tie.invariant-loop-u
 invariant-loop table₀ d u₀ table u = (u ≤ 32) × Filled (inverse d) table₀ u table
 
-abbrev decreases-loop : tie.decreases-loop
+abbrev decreases-loop : tie.decreases-loop-u
 decreases-loop table₀ d u₀ table u = 32 - u
 
-loop-holds : tie.Need-loop-init invariant-loop decreases-loop
+loop-holds : tie.Need-loop-u-init invariant-loop decreases-loop
 loop-holds c = (omega arith, filled_none _ _)
 
 inverse-requires : tie.Need-inverse-requires invariant-loop decreases-loop
-inverse-requires c κs = let dim = dimension _ c.before.before.before.requires.0 in (dim.low, dim.high)
+inverse-requires c κs = let dim = dimension _ c.requires.0 in (dim.low, dim.high)
 
-slice-write-table : tie.Need-slice-write-table invariant-loop decreases-loop
-slice-write-table c = omega (arith, c.before.before.loop.invariant.1.len, c.before.before.before.before.requires.1)
+slice-write-table : tie.Need-bounds-table-u invariant-loop decreases-loop
+slice-write-table c = omega (arith, c.loop-u.invariant.1.len, c.requires.1)
 
-loop-again : tie.Need-loop-preserved invariant-loop decreases-loop
+loop-again : tie.Need-loop-u-preserved invariant-loop decreases-loop
 loop-again c =
-    let l = c.before.before.loop in
-    (omega arith, filled_more _ _ _ _ l.invariant.1 (omega (arith, c.before.before.before.before.requires.1)) _ c.inverse.ensures)
+    let l = c.loop-u in
+    (omega arith, filled_more _ _ _ _ l.invariant.1 (omega (arith, c.requires.1)) _ c.inverse.ensures)
 
-same_length : tie.Need-same-length invariant-loop decreases-loop
-same_length c = c.before.loop.invariant.1.len
+same_length : tie.Need-shape_of-table invariant-loop decreases-loop
+same_length c = c.loop-u.invariant.1.len
 
 returns : tie.Need-returns invariant-loop decreases-loop
 returns c =
-    let l = c.before.loop in
-    filled-all _ _ _ _ _ l.invariant.1 l.invariant.0 c.loop-test.false ∙ filled-whole _ _ _ c.before.before.before.requires.1
+    let l = c.loop-u in
+    filled-all _ _ _ _ _ l.invariant.1 l.invariant.0 c.loop-u-test.false ∙ filled-whole _ _ _ c.requires.1
 
-pub make-inverses-spec : {M : Type 1} → statement M
-make-inverses-spec =
+pub make_inverses_spec : {M : Type 1} → statement M
+make_inverses_spec =
     tie.close
     (tie.spec
     invariant-loop

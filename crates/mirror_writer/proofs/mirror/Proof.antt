@@ -8,69 +8,69 @@ use Rattle.mirror_writer.proofs.Books.{most, allows, names, entries, measuring-b
 use Rattle.mirror_writer.proofs.mirror.Statement.{statement}
 use Rattle.mirror_writer.proofs.mirror.Tie as tie
 
-returns : tie.Need-returns
+returns : tie.Need-returns-in-Refused
 unfolding mirror_book mirror_by_answer
 returns c =
-    let m = c.before.before.before in
-    rw (c.refused.ensures, ← m.before.before.read.ensures.0, m.reading2.given.1, c.before.byte-as-usize.ensures.0)
+    let m = c in
+    rw (c.refused.ensures, ← m.read-reading.ensures.0, m.in-Refused.is, c.byte_as_usize.ensures.0)
 
-operations-requires : tie.Need-operations-requires
+operations-requires : tie.Need-operations-ops-requires
 operations-requires c κs =
-    let m = c.before in
-    let s = m.before.before.before.before.before.args in
-    let g = handed s.book.now m.before.before.read.ensures m.reading.given.1 in
+    let m = c in
+    let s = m.args in
+    let g = handed s.book.now m.read-reading.ensures m.in-Accepted.is in
     (g.bodies.room, g.bodies.first)
 
-measurement-in-requires : tie.Need-measurement-in-requires
+measurement-in-requires : tie.Need-measurement_in-requires
 measurement-in-requires c κs =
-    let m = c.before.before in
-    let s = m.before.before.before.before.before.args in
-    let g = handed s.book.now m.before.before.read.ensures m.reading.given.1 in
-    let is = c.operations.ensures in
-    (allows s.book.now g is, names s.book.now g is, rw is (choices-counted s.book.now m.before.before.read.ensures m.reading.given.1))
+    let m = c in
+    let s = m.args in
+    let g = handed s.book.now m.read-reading.ensures m.in-Accepted.is in
+    let is = c.operations-ops.ensures in
+    (allows s.book.now g is, names s.book.now g is, rw is (choices-counted s.book.now m.read-reading.ensures m.in-Accepted.is))
 
-returns-2 : tie.Need-returns-2
+returns-2 : tie.Need-returns-in-At
 returns-2 c =
-    let o = c.before.before.before.before.before in
-    let m = o.before.before in
-    let s = m.before.before.before.before.before.args in
-    let g = handed s.book.now m.before.before.read.ensures m.reading.given.1 in
-    rw c.refused2.ensures
-    (measuring-book s.book.now g o.operations.ensures s.out.now _ (sym c.before.before.index.given.1 ∙ c.before.before.before.before.measurement-in.ensures))
+    let o = c in
+    let m = o in
+    let s = m.args in
+    let g = handed s.book.now m.read-reading.ensures m.in-Accepted.is in
+    rw c.refused-in-At.ensures
+    (measuring-book s.book.now g o.operations-ops.ensures s.out.now _ (sym c.in-At.is ∙ c.measurement_in.ensures))
 
-returns-3 : tie.Need-returns-3
+returns-3 : tie.Need-returns-then-out-size
 returns-3 c =
-    let e = c.before.before in
-    let o = e.before.before.before in
-    let m = o.before.before in
-    let s = m.before.before.before.before.before.args in
-    let g = handed s.book.now m.before.before.read.ensures m.reading.given.1 in
-    rw c.refused3.ensures
-    (short-book s.book.now g o.operations.ensures s.out.now (sym e.enum_told.given.1 ∙ e.before.before.measurement-in.ensures) c.before.if1.true)
+    let e = c in
+    let o = e in
+    let m = o in
+    let s = m.args in
+    let g = handed s.book.now m.read-reading.ensures m.in-Accepted.is in
+    rw c.refused-then-out-size.ensures
+    (short-book s.book.now g o.operations-ops.ensures s.out.now (sym e.in_default.is ∙ e.measurement_in.ensures) c.if-out-size.true)
 
-write-mirror-requires : tie.Need-write-mirror-requires
+write-mirror-requires : tie.Need-write_mirror-requires
 write-mirror-requires c κs =
-    let e = c.before.before in
-    let o = e.before.before.before in
-    let m = o.before.before in
-    let s = m.before.before.before.before.before.args in
-    let g = handed s.book.now m.before.before.read.ensures m.reading.given.1 in
-    let is = o.operations.ensures in
-    (entries s.book.now g is (sym e.enum_told.given.1 ∙ e.before.before.measurement-in.ensures), most s.book.now g is, g.qudits, c.before.if1.false)
+    let e = c in
+    let o = e in
+    let m = o in
+    let s = m.args in
+    let g = handed s.book.now m.read-reading.ensures m.in-Accepted.is in
+    let is = o.operations-ops.ensures in
+    (entries s.book.now g is (sym e.in_default.is ∙ e.measurement_in.ensures), most s.book.now g is, g.qudits, c.if-out-size.false)
 
-returns-4 : tie.Need-returns-4
+returns-4 : tie.Need-returns
 returns-4 c =
-    let w = c.before.before in
-    let e = w.before.before.before in
-    let o = e.before.before.before in
-    let m = o.before.before in
-    let s = m.before.before.before.before.before.args in
-    let g = handed s.book.now m.before.before.read.ensures m.reading.given.1 in
-    rw w.write-mirror.ensures
-    (mirrored-book s.book.now g o.operations.ensures s.out.now (sym e.enum_told.given.1 ∙ e.before.before.measurement-in.ensures) w.before.before.if1.false)
+    let w = c in
+    let e = w in
+    let o = e in
+    let m = o in
+    let s = m.args in
+    let g = handed s.book.now m.read-reading.ensures m.in-Accepted.is in
+    rw w.write_mirror.ensures
+    (mirrored-book s.book.now g o.operations-ops.ensures s.out.now (sym e.in_default.is ∙ e.measurement_in.ensures) w.if-out-size.false)
 
-pub mirror-spec : {M : Type 1} → statement M
-mirror-spec =
+pub mirror_spec : {M : Type 1} → statement M
+mirror_spec =
     tie.close
     (tie.spec
     (λ c κs. search rules)

@@ -5,20 +5,20 @@ use borrow.Author.Rules.{rules}
 use Rattle.mirror_writer.proofs.mirror_body.Statement.{statement}
 use Rattle.mirror_writer.proofs.mirror_body.Tie as tie
 
-make-inverses-requires : tie.Need-make-inverses-requires
-make-inverses-requires c κs = (c.before.before.before.requires.0.dimension, refl)
+make-inverses-requires : tie.Need-make_inverses-requires
+make-inverses-requires c κs = (c.requires.0.dimension, refl)
 
-mirror-entries-requires : tie.Need-mirror-entries-requires
+mirror-entries-requires : tie.Need-mirror_entries-requires
 mirror-entries-requires c κs =
-    let m = c.before.before.before.before in
-    let s = m.before.before.before.before in
-    (s.requires.0, record { inverse-table = m.make-inverses.ensures; order-table = refl }, s.requires.1)
+    let m = c in
+    let s = m in
+    (s.requires.0, record { inverse-table = m.make_inverses.ensures; order-table = refl }, s.requires.1)
 
 returns : tie.Need-returns
-returns c = c.before.before.mirror-entries.ensures
+returns c = c.mirror_entries.ensures
 
-pub mirror-body-spec : {M : Type 1} → statement M
-mirror-body-spec =
+pub mirror_body_spec : {M : Type 1} → statement M
+mirror_body_spec =
     tie.close
     (tie.spec
     (λ c. search rules)

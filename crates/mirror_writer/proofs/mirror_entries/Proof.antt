@@ -14,42 +14,42 @@ use Rattle.mirror_writer.proofs.Written.{EntriesWritten, written_none, written-m
 use Rattle.mirror_writer.proofs.mirror_entries.Statement.{statement}
 use Rattle.mirror_writer.proofs.mirror_entries.Tie as tie
 
-abbrev invariant-loop : tie.invariant-loop
+abbrev invariant-loop : tie.invariant-loop-k
 invariant-loop body₀ ops inverses orders d n count k₀ body k = (k ≤ count) × EntriesWritten (mirror_at d (operations_of d n ops)) body₀ k body
 
-abbrev decreases-loop : tie.decreases-loop
+abbrev decreases-loop : tie.decreases-loop-k
 decreases-loop body₀ ops inverses orders d n count k₀ body k = count - k
 
-loop-holds : tie.Need-loop-init invariant-loop decreases-loop
+loop-holds : tie.Need-loop-k-init invariant-loop decreases-loop
 loop-holds c = (omega arith, written_none _ _)
 
-mirror-entry-requires : tie.Need-mirror-entry-requires invariant-loop decreases-loop
+mirror-entry-requires : tie.Need-mirror_entry-requires invariant-loop decreases-loop
 mirror-entry-requires c κs =
-    let l = c.before.before in
-    let s = l.before.before.before.before.before in
-    (s.requires.0, s.requires.1, c.before.loop-test.true, l.loop.invariant.1.len ∙ s.requires.2)
+    let l = c in
+    let s = l in
+    (s.requires.0, s.requires.1, c.loop-k-test.true, l.loop-k.invariant.1.len ∙ s.requires.2)
 
-loop-again : tie.Need-loop-preserved invariant-loop decreases-loop
+loop-again : tie.Need-loop-k-preserved invariant-loop decreases-loop
 loop-again c =
-    let m = c.before.before in
-    let l = m.before.before.before in
-    (omega arith, written-more _ _ _ _ _ l.loop.invariant.1 c.before.body.given m.mirror-entry.ensures)
+    let m = c in
+    let l = m in
+    (omega arith, written-more _ _ _ _ _ l.loop-k.invariant.1 c.body-1.given m.mirror_entry.ensures)
 
-same_length : tie.Need-same-length invariant-loop decreases-loop
-same_length c = c.before.loop.invariant.1.len
+same_length : tie.Need-shape_of-body invariant-loop decreases-loop
+same_length c = c.loop-k.invariant.1.len
 
 returns : tie.Need-returns invariant-loop decreases-loop
 unfolding mirrored
 returns c =
-    let l = c.before.loop in
-    let s = c.before.before.before.before.before.before in
-    let e = le_antisymm l.invariant.0 c.loop-test.false in
+    let l = c.loop-k in
+    let s = c in
+    let e = le_antisymm l.invariant.0 c.loop-k-test.false in
     let k : l.k ≡ length (operations_of s.args.d s.args.n s.args.ops.now) = e ∙ sym (op-count s.args.d s.args.n s.args.ops.now) in
     written_all _ _ _ _ l.invariant.1 (omega (arith, s.requires.2, s.requires.0.whole, e))
     ∙ ap (λ (m : ℕ). bytes_of_all (tab (mirror_at s.args.d (operations_of s.args.d s.args.n s.args.ops.now)) m)) k
 
-pub mirror-entries-spec : {M : Type 1} → statement M
-mirror-entries-spec =
+pub mirror_entries_spec : {M : Type 1} → statement M
+mirror_entries_spec =
     tie.close
     (tie.spec
     invariant-loop

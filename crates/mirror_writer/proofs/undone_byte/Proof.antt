@@ -10,37 +10,37 @@ use Rattle.row.proofs.Fill.{tab-length, tab-get}
 use Rattle.mirror_writer.proofs.undone_byte.Statement.{statement}
 use Rattle.mirror_writer.proofs.undone_byte.Tie as tie
 
-shared-slice-read-factor : tie.Need-shared-slice-read-factor
+shared-slice-read-factor : tie.Need-bounds-inverses-byte_as_usize
 shared-slice-read-factor c =
-    let s = c.before.before.before.before in
-    omega (arith, ap length s.requires.0.inverse-table, tab-length (inverse s.args.d) 32, c.before.byte-as-usize.ensures.0, s.requires.2)
+    let s = c in
+    omega (arith, ap length s.requires.0.inverse-table, tab-length (inverse s.args.d) 32, c.byte_as_usize.ensures.0, s.requires.2)
 
-shared-slice-read-missing : tie.Need-shared-slice-read-missing
+shared-slice-read-missing : tie.Need-bounds-orders-byte_as_usize
 shared-slice-read-missing c =
-    let s = c.before.before.before.before.before.before in
-    omega (arith, ap length s.requires.0.order-table, c.before.byte-as-usize2.ensures.0, s.requires.1)
+    let s = c in
+    omega (arith, ap length s.requires.0.order-table, c.byte_as_usize-2.ensures.0, s.requires.1)
 
-sub-missing : tie.Need-overflow-sub-missing
+sub-missing : tie.Need-overflow_sub-missing
 sub-missing c =
-    let b = c.before.before in
-    let s = b.before.before.before.before.before in
-    rw (b.byte-as-usize2.ensures.0, s.requires.0.order-table, c.times-in.ensures) s.requires.3
+    let b = c in
+    let s = b in
+    rw (b.byte_as_usize-2.ensures.0, s.requires.0.order-table, c.times_in.ensures) s.requires.3
 
-returns : tie.Need-returns
+returns : tie.Need-returns-then-b0-eq5
 returns c =
-    let b = c.before.before.before.before.before.before in
-    let s = b.before.before.before in
-    rw (eq-eqb _ 5 c.if1.true, b.byte-as-usize.ensures.0, s.requires.0.inverse-table) (tab-get (inverse s.args.d) 32 s.args.b3 0 s.requires.2)
+    let b = c in
+    let s = b in
+    rw (eq-eqb _ 5 c.if-b0-eq5.true, b.byte_as_usize.ensures.0, s.requires.0.inverse-table) (tab-get (inverse s.args.d) 32 s.args.b3 0 s.requires.2)
 
-returns-2 : tie.Need-returns-2
+returns-2 : tie.Need-returns-else-b0-eq5
 returns-2 c =
-    let t = c.before in
-    let b = t.before.before.before in
-    let s = b.before.before.before.before.before in
-    rw (t.times-byte.ensures, b.byte-as-usize2.ensures.0, s.requires.0.order-table, t.before.times-in.ensures, ne_eqb _ 5 c.if1.false)
+    let t = c in
+    let b = t in
+    let s = b in
+    rw (t.times_byte-times.ensures, b.byte_as_usize-2.ensures.0, s.requires.0.order-table, t.times_in.ensures, ne_eqb _ 5 c.if-b0-eq5.false)
 
-pub undone-byte-spec : {M : Type 1} → statement M
-undone-byte-spec =
+pub undone_byte_spec : {M : Type 1} → statement M
+undone_byte_spec =
     tie.close
     (tie.spec
     (λ c κs. search rules)

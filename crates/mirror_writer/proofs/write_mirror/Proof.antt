@@ -10,15 +10,15 @@ use Rattle.mirror_writer.proofs.write_mirror.Tie as tie
 returns : tie.Need-returns
 unfolding put
 returns c =
-    let m = c.before.before in
-    let l = m.before.before.before.before in
-    let h = l.before.before.before in
-    let s = h.before.before.before in
-    simp (m.mirror-body.ensures, add-sub_cancel_left, l.lay.ensures, h.head_of.ensures)
+    let m = c in
+    let l = m in
+    let h = l in
+    let s = h in
+    simp (m.mirror_body.ensures, add-sub_cancel_left, l.lay.ensures, h.head_of-head.ensures)
     (mirror-laid s.args.d s.args.n _ _ s.args.out.now (mirror-size s.args.d s.args.n s.args.ops.now s.requires.0.whole))
 
-pub write-mirror-spec : {M : Type 1} → statement M
-write-mirror-spec =
+pub write_mirror_spec : {M : Type 1} → statement M
+write_mirror_spec =
     tie.close
     (tie.spec
     (λ c. search rules)

@@ -8,11 +8,11 @@ use Rattle.operation_codes.proofs.operation_of.Tie as tie
 
 returns : tie.Need-returns
 returns c =
-    let s = c.before.before.before.before.before.before.before.before in
-    rw (c.coded.ensures, c.before.before.before.before.byte-as-usize.ensures.0, c.before.before.byte-as-usize2.ensures.0) (sym (is-coded s.args.d s.args.n s.args.ops.now s.args.k s.requires.0 s.requires.1))
+    let s = c in
+    rw (c.coded.ensures, c.byte_as_usize.ensures.0, c.byte_as_usize-2.ensures.0) (sym (is-coded s.args.d s.args.n s.args.ops.now s.args.k s.requires.0 s.requires.1))
 
-pub operation-of-spec : {M : Type 1} → statement M
-operation-of-spec =
+pub operation_of_spec : {M : Type 1} → statement M
+operation_of_spec =
     tie.close
     (tie.spec
     (λ c. search rules)

@@ -5,7 +5,9 @@ use Rattle.operation_codes.proofs.step_of.Statement.{statement}
 use Rattle.operation_codes.proofs.step_of.Tie as tie
 
 returns : tie.Need-returns
-returns c = rw c.operation-of.ensures
+returns c = rw c.operation_of.ensures
 
-pub step-of-spec : {M : Type 1} → statement M
-step-of-spec = tie.close (tie.spec (λ c κs. search rules) returns)
+pub step_of_spec : {M : Type 1} → statement M
+step_of_spec = tie.close (tie.spec
+    (λ c κs. search rules)
+    returns)

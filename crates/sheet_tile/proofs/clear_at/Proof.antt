@@ -12,39 +12,39 @@ use borrow.Author.Rules.{rules}
 use Rattle.sheet_tile.proofs.clear_at.Statement.{statement}
 use Rattle.sheet_tile.proofs.clear_at.Tie as tie
 
-mul-s : tie.Need-overflow-mul-s
+mul-s : tie.Need-overflow_mul-s
 mul-s c = search rules
 
-add-e : tie.Need-overflow-add-e
+add-e : tie.Need-overflow_add-e
 add-e c = search rules
 
-sub-clear : tie.Need-overflow-sub-clear
+sub-clear : tie.Need-slice_bounds-clear-count
 sub-clear c = search rules
 
-part-clear-start : tie.Need-slice-bounds-clear-start
+part-clear-start : tie.Need-slice_bounds-clear-start
 part-clear-start c = search rules
 
-part-clear-end : tie.Need-slice-bounds-clear-end
+part-clear-end : tie.Need-slice_bounds-clear-end
 part-clear-end c = search rules
 
 clear-requires : tie.Need-clear-requires
 clear-requires c κs = search rules
 
-same_length : tie.Need-same-length
+same_length : tie.Need-shape_of-out
 same_length c = search rules
 
 returns : tie.Need-returns
 unfolding part put
 returns c =
-    let s = c.before.before.before.before.before in
+    let s = c in
     let a = s.args in
     let room : a.l * a.w + a.w ≤ length a.out.now = omega (arith, s.requires.1.room) in
-    let e = simp add-sub_cancel_left at c.before.before.clear.ensures in
+    let e = simp add-sub_cancel_left at c.clear.ensures in
     simp add-sub_cancel_left (changed-at a.w a.l a.out.now _ room
     (e.len ∙ part_length (a.l * a.w) a.w a.out.now room) e)
 
-pub clear-at-spec : {M : Type 1} → statement M
-clear-at-spec =
+pub clear_at_spec : {M : Type 1} → statement M
+clear_at_spec =
     tie.close
     (tie.spec
     mul-s

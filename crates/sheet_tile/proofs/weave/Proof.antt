@@ -10,62 +10,62 @@ use borrow.Author.Rules.{rules}
 use Rattle.sheet_tile.proofs.weave.Statement.{statement}
 use Rattle.sheet_tile.proofs.weave.Tie as tie
 
-abbrev invariant-loop : tie.invariant-loop
+abbrev invariant-loop : tie.invariant-loop-i
 invariant-loop row₀ transposed l j t a c b i₀ row i = (i ≤ t) × Run (woven_bytes transposed l) (2 * j) (2 * i) row₀ row
 
-abbrev decreases-loop : tie.decreases-loop
+abbrev decreases-loop : tie.decreases-loop-i
 decreases-loop row₀ transposed l j t a c b i₀ row i = t - i
 
-mul-a : tie.Need-overflow-mul-a invariant-loop decreases-loop
+mul-a : tie.Need-overflow_mul-a invariant-loop decreases-loop
 mul-a c = search rules
 
-mul-b : tie.Need-overflow-mul-b invariant-loop decreases-loop
+mul-b : tie.Need-overflow_mul-b invariant-loop decreases-loop
 mul-b c = search rules
 
-loop-holds : tie.Need-loop-init invariant-loop decreases-loop
+loop-holds : tie.Need-loop-i-init invariant-loop decreases-loop
 loop-holds c = let z : 2 * 0 ≡ 0 = omega arith in (omega arith, rw z run_none)
 
-add_row : tie.Need-overflow-add-row invariant-loop decreases-loop
+add_row : tie.Need-overflow_add-row invariant-loop decreases-loop
 add_row c = search rules
 
-shared-slice-read-row : tie.Need-shared-slice-read-row invariant-loop decreases-loop
+shared-slice-read-row : tie.Need-bounds-transposed-a invariant-loop decreases-loop
 shared-slice-read-row c = search rules
 
-mul-row : tie.Need-overflow-mul-row invariant-loop decreases-loop
+mul-row : tie.Need-overflow_mul-row invariant-loop decreases-loop
 mul-row c = search rules
 
-add-row-2 : tie.Need-overflow-add-row-2 invariant-loop decreases-loop
+add-row-2 : tie.Need-overflow_add-row-in-loop-i invariant-loop decreases-loop
 add-row-2 c = search rules
 
-slice-write-row : tie.Need-slice-write-row invariant-loop decreases-loop
-slice-write-row c = omega (arith, c.before.before.loop.invariant.1.len)
+slice-write-row : tie.Need-bounds-row-b invariant-loop decreases-loop
+slice-write-row c = omega (arith, c.loop-i.invariant.1.len)
 
-shared-slice-read-row-2 : tie.Need-shared-slice-read-row-2 invariant-loop decreases-loop
+shared-slice-read-row-2 : tie.Need-bounds-transposed-c invariant-loop decreases-loop
 shared-slice-read-row-2 c = search rules
 
-mul-row-2 : tie.Need-overflow-mul-row-2 invariant-loop decreases-loop
+mul-row-2 : tie.Need-overflow_mul-row-in-loop-i invariant-loop decreases-loop
 mul-row-2 c = search rules
 
-add-row-3 : tie.Need-overflow-add-row-3 invariant-loop decreases-loop
+add-row-3 : tie.Need-overflow_add-row-in-loop-i-2 invariant-loop decreases-loop
 add-row-3 c = search rules
 
-add-row-4 : tie.Need-overflow-add-row-4 invariant-loop decreases-loop
+add-row-4 : tie.Need-overflow_add-row-in-loop-i-3 invariant-loop decreases-loop
 add-row-4 c = search rules
 
-slice-write-row-2 : tie.Need-slice-write-row-2 invariant-loop decreases-loop
-slice-write-row-2 c = simp length-set (omega (arith, c.before.before.before.loop.invariant.1.len))
+slice-write-row-2 : tie.Need-bounds-row-b-in-loop-i invariant-loop decreases-loop
+slice-write-row-2 c = simp length-set (omega (arith, c.loop-i.invariant.1.len))
 
-add-i : tie.Need-overflow-add-i invariant-loop decreases-loop
+add-i : tie.Need-overflow_step-i invariant-loop decreases-loop
 add-i c = search rules
 
-loop-less : tie.Need-loop-smaller invariant-loop decreases-loop
+loop-less : tie.Need-loop-i-smaller invariant-loop decreases-loop
 loop-less c = search rules
 
-loop-again : tie.Need-loop-preserved invariant-loop decreases-loop
+loop-again : tie.Need-loop-i-preserved invariant-loop decreases-loop
 loop-again c =
-    let s = c.before.before.before.before in
+    let s = c in
     let a = s.args in
-    let l = c.before.before.before.loop in
+    let l = c.loop-i in
     let bt : 2 * a.j + 2 * l.i + 1 ≡ 2 * a.j + (2 * l.i + 1) = omega arith in
     let next : 2 * (l.i + 1) ≡ 2 * l.i + 1 + 1 = omega arith in (
       omega arith,
@@ -73,14 +73,14 @@ loop-again c =
           (run_more _ _ _ refl refl (omega arith) (sym (woven_even a.transposed.now a.l l.i)) l.invariant.1),
     )
 
-same_length : tie.Need-same-length invariant-loop decreases-loop
-same_length c = c.before.loop.invariant.1.len
+same_length : tie.Need-shape_of-row invariant-loop decreases-loop
+same_length c = c.loop-i.invariant.1.len
 
 returns : tie.Need-returns invariant-loop decreases-loop
-returns c = let a = c.before.before.args in run_woven a.transposed.now a.l a.j a.t (2 * c.before.loop.i) (omega arith) c.before.loop.invariant.1
+returns c = let a = c.args in run_woven a.transposed.now a.l a.j a.t (2 * c.loop-i.i) (omega arith) c.loop-i.invariant.1
 
-pub weave-spec : {M : Type 1} → statement M
-weave-spec =
+pub weave_spec : {M : Type 1} → statement M
+weave_spec =
     tie.close
     (tie.spec
     invariant-loop

@@ -12,39 +12,39 @@ use borrow.Author.Rules.{rules}
 use Rattle.sheet_tile.proofs.weave_at.Statement.{statement}
 use Rattle.sheet_tile.proofs.weave_at.Tie as tie
 
-mul-s : tie.Need-overflow-mul-s
+mul-s : tie.Need-overflow_mul-s
 mul-s c = search rules
 
-add-e : tie.Need-overflow-add-e
+add-e : tie.Need-overflow_add-e
 add-e c = search rules
 
-sub-weave : tie.Need-overflow-sub-weave
+sub-weave : tie.Need-slice_bounds-weave-count
 sub-weave c = search rules
 
-part-weave-start : tie.Need-slice-bounds-weave-start
+part-weave-start : tie.Need-slice_bounds-weave-start
 part-weave-start c = search rules
 
-part-weave-end : tie.Need-slice-bounds-weave-end
+part-weave-end : tie.Need-slice_bounds-weave-end
 part-weave-end c = search rules
 
 weave-requires : tie.Need-weave-requires
 weave-requires c κs = search rules
 
-same_length : tie.Need-same-length
+same_length : tie.Need-shape_of-out
 same_length c = search rules
 
 returns : tie.Need-returns
 unfolding part put
 returns c =
-    let s = c.before.before.before.before.before.before in
+    let s = c in
     let a = s.args in
     let room : a.l * a.w + a.w ≤ length a.out.now = omega (arith, s.requires.3.room) in
-    let e = simp add-sub_cancel_left at c.before.before.weave.ensures in
+    let e = simp add-sub_cancel_left at c.weave.ensures in
     simp add-sub_cancel_left (changed-at a.w a.l a.out.now _ room
     (e.len ∙ part_length (a.l * a.w) a.w a.out.now room) e)
 
-pub weave-at-spec : {M : Type 1} → statement M
-weave-at-spec =
+pub weave_at_spec : {M : Type 1} → statement M
+weave_at_spec =
     tie.close
     (tie.spec
     mul-s

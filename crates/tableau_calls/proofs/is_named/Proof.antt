@@ -5,7 +5,11 @@ use Rattle.tableau_calls.proofs.is_named.Statement.{statement}
 use Rattle.tableau_calls.proofs.is_named.Tie as tie
 
 returns : tie.Need-returns
-returns c = rw c.byte-as-usize.ensures.0
+returns c = rw c.byte_as_usize.ensures.0
 
-pub is-named-spec : {M : Type 1} → statement M
-is-named-spec = tie.close (tie.spec (λ c. search rules) (λ c. search rules) (λ c κs. search rules) returns)
+pub is_named_spec : {M : Type 1} → statement M
+is_named_spec = tie.close (tie.spec
+    (λ c. search rules)
+    (λ c. search rules)
+    (λ c κs. search rules)
+    returns)

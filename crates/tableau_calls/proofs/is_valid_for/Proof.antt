@@ -10,22 +10,26 @@ use Rattle.saved_tableau_laws.proofs.Exactly.{rows_decide, is-named}
 use Rattle.tableau_calls.proofs.is_valid_for.Statement.{statement}
 use Rattle.tableau_calls.proofs.is_valid_for.Tie as tie
 
-returns : tie.Need-returns
+returns : tie.Need-returns-then-not-is_named
 unfolding valid_for
-returns c = rw (sym c.before.is-named.ensures ∙ not-true _ c.if1.true)
+returns c = rw (sym c.is_named.ensures ∙ c.if-not-is_named.true)
 
-rows-valid-requires : tie.Need-rows-valid-requires
-rows-valid-requires c κs = let p = c.before.before.before.requires in (p.0, sized-most _ p.1, p.2)
+rows-valid-requires : tie.Need-rows_valid-requires
+rows-valid-requires c κs = let p = c.requires in (p.0, sized-most _ p.1, p.2)
 
-returns-2 : tie.Need-returns-2
+returns-2 : tie.Need-returns
 unfolding valid_for
 returns-2 c =
-    let i = c.before.before in
-    let s = i.before.before in
+    let i = c in
+    let s = i in
     let t = s.args.t.now in
-    let yes : names s.args.d s.args.n t ≡ true = sym i.is-named.ensures ∙ not-false _ c.before.if1.false in
+    let yes : names s.args.d s.args.n t ≡ true = sym i.is_named.ensures ∙ c.if-not-is_named.false in
     let q = is-named t yes in
-    rw (yes, rows_decide t (rw q.0 s.requires.0) (rw q.1 s.requires.1), q.0, q.1) c.rows-valid.ensures
+    rw (yes, rows_decide t (rw q.0 s.requires.0) (rw q.1 s.requires.1), q.0, q.1) c.rows_valid.ensures
 
-pub is-valid-for-spec : {M : Type 1} → statement M
-is-valid-for-spec = tie.close (tie.spec (λ c κs. search rules) returns rows-valid-requires returns-2)
+pub is_valid_for_spec : {M : Type 1} → statement M
+is_valid_for_spec = tie.close (tie.spec
+    (λ c κs. search rules)
+    returns
+    rows-valid-requires
+    returns-2)

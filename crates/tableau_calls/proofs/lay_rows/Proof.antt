@@ -6,9 +6,15 @@ use Rattle.tableau_calls.proofs.lay_rows.Statement.{statement}
 use Rattle.tableau_calls.proofs.lay_rows.Tie as tie
 
 returns : tie.Need-returns
-returns c = rw (rows-put, c.before.before.zero-rows.ensures, rows-part)
+returns c = rw (rows-put, c.zero_rows.ensures, rows-part)
 
-pub lay-rows-spec : {M : Type 1} → statement M
-lay-rows-spec =
+pub lay_rows_spec : {M : Type 1} → statement M
+lay_rows_spec =
     tie.close
-    (tie.spec (λ c. search rules) (λ c. search rules) (λ c. search rules) (λ c κs. search rules) (λ c. search rules) returns)
+    (tie.spec
+    (λ c. search rules)
+    (λ c. search rules)
+    (λ c. search rules)
+    (λ c κs. search rules)
+    (λ c. search rules)
+    returns)

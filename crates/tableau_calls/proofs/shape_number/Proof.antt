@@ -13,32 +13,32 @@ use Rattle.tableau_calls.proofs.shape_number.Statement.{statement}
 use Rattle.tableau_calls.proofs.shape_number.Tie as tie
 
 -- what the first two tests leave
-dimension : (c : tie.Else1) → listed c.before.before.before.args.d ≡ true
-dimension c = sym c.before.is-listed.ensures ∙ not-false _ c.if1.false
+dimension : (c : tie.Else-not-is_listed) → listed c.args.d ≡ true
+dimension c = sym c.is_listed.ensures ∙ c.if-not-is_listed.false
 
-qudits : (c : tie.Else2) → sized c.before.before.before.before.before.args.n ≡ true
-qudits c = sym c.before.is-sized.ensures ∙ not-false _ c.if2.false
+qudits : (c : tie.Else-not-is_sized) → sized c.args.n ≡ true
+qudits c = sym c.is_sized.ensures ∙ c.if-not-is_sized.false
 
-most : (c : tie.Else2) → c.before.before.before.before.before.args.n ≤ 64
+most : (c : tie.Else-not-is_sized) → c.args.n ≤ 64
 most c = sized-most _ (qudits c)
 
-room : (c : tie.Else2) → let n = c.before.before.before.before.before.args.n in 2 * n * (2 * n + 1) ≤ 128 * 129
+room : (c : tie.Else-not-is_sized) → let n = c.args.n in 2 * n * (2 * n + 1) ≤ 128 * 129
 room c = sized-bytes _ (most c)
 
-returns : tie.Need-returns
-returns c = rw (sym c.before.is-listed.ensures ∙ not-true _ c.if1.true)
+returns : tie.Need-returns-then-not-is_listed
+returns c = rw (sym c.is_listed.ensures ∙ c.if-not-is_listed.true)
 
-returns-2 : tie.Need-returns-2
-returns-2 c = rw (dimension c.before.before, sym c.before.is-sized.ensures ∙ not-true _ c.if2.true)
+returns-2 : tie.Need-returns-then-not-is_sized
+returns-2 c = rw (dimension c.before.before, sym c.is_sized.ensures ∙ c.if-not-is_sized.true)
 
-returns-3 : tie.Need-returns-3
-returns-3 c = rw (dimension c.before.before.before, qudits c.before, lt-leb _ _ c.if3.true)
+returns-3 : tie.Need-returns-then-t-n
+returns-3 c = rw (dimension c.before.before.before, qudits c.before, lt-leb _ _ c.if-t-n.true)
 
-returns-4 : tie.Need-returns-4
-returns-4 c = rw (dimension c.before.before.before, qudits c.before, le-leb _ _ c.if3.false)
+returns-4 : tie.Need-returns
+returns-4 c = rw (dimension c.before.before.before, qudits c.before, le-leb _ _ c.if-t-n.false)
 
-pub shape-number-spec : {M : Type 1} → statement M
-shape-number-spec =
+pub shape_number_spec : {M : Type 1} → statement M
+shape_number_spec =
     tie.close
     (tie.spec
     (λ c κs. search rules)

@@ -17,17 +17,17 @@ shuffle-requires-3 c κs = search rules
 shuffle-requires-4 : tie.Need-shuffle-requires-4
 shuffle-requires-4 c κs = search rules
 
-same_length : tie.Need-same-length
+same_length : tie.Need-shape_of-tile
 same_length c = search rules
 
-same-length-2 : tie.Need-same-length-2
+same-length-2 : tie.Need-shape_of-spare
 same-length-2 c = search rules
 
 returns : tie.Need-returns
-returns c = (transposed c.before.before.before.before.before.before.before.before.before.before.before.before.before.before.before.before.before.shuffle.ensures c.before.before.before.before.before.before.before.before.before.before.before.before.shuffle2.ensures c.before.before.before.before.before.before.before.shuffle3.ensures c.before.before.shuffle4.ensures, c.before.before.before.before.before.before.before.shuffle3.ensures.len)
+returns c = (transposed c.shuffle.ensures c.shuffle-2.ensures c.shuffle-3.ensures c.shuffle-4.ensures, c.shuffle-3.ensures.len)
 
-pub transpose-spec : {M : Type 1} → statement M
-transpose-spec =
+pub transpose_spec : {M : Type 1} → statement M
+transpose_spec =
     tie.close
     (tie.spec
     shuffle-requires

@@ -27,102 +27,102 @@ passes : (s : List ℕ) (d n count start size i : ℕ) {r : Place} → start ≡
     → r ≡ bad_error d n count (part start size s) → r ≡ Nowhere → good_shot d n count s i ≡ true
 passes s d n count start size i a b e f = rw (← a, ← b, ← e, f)
 
-abbrev invariant-loop : tie.invariant-loop
+abbrev invariant-loop : tie.invariant-loop-i
 invariant-loop tray count d n shots start₀ i₀ start i = (i ≤ shots) × (start ≡ start_of tray i) × (first_not (good_shot d n count tray) i ≡ Nowhere)
 
-abbrev decreases-loop : tie.decreases-loop
+abbrev decreases-loop : tie.decreases-loop-i
 decreases-loop tray count d n shots start₀ i₀ start i = shots - i
 
-word-requires : tie.Need-word-requires invariant-loop decreases-loop
-word-requires c κs = let s = c.before.args.tray.now in omega (arith, table-inside s (table_says s c.before.requires))
+word-requires : tie.Need-word-shots-requires invariant-loop decreases-loop
+word-requires c κs = let s = c.args.tray.now in omega (arith, table-inside s (table_says s c.requires))
 
-mul-start : tie.Need-overflow-mul-start invariant-loop decreases-loop
+mul-start : tie.Need-overflow_mul-start invariant-loop decreases-loop
 mul-start c = search rules
 
-add_start : tie.Need-overflow-add-start invariant-loop decreases-loop
+add_start : tie.Need-overflow_add-start invariant-loop decreases-loop
 add_start c = search rules
 
-loop-holds : tie.Need-loop-init invariant-loop decreases-loop
+loop-holds : tie.Need-loop-i-init invariant-loop decreases-loop
 unfolding start_of first_not
-loop-holds c = (omega arith, ap (λ (x : ℕ). 2 + 2 * x) c.word.ensures.0, refl)
+loop-holds c = (omega arith, ap (λ (x : ℕ). 2 + 2 * x) c.word-shots.ensures.0, refl)
 
-mul-word : tie.Need-overflow-mul-word invariant-loop decreases-loop
+mul-word : tie.Need-overflow_mul-i invariant-loop decreases-loop
 mul-word c = search rules
 
-add-word : tie.Need-overflow-add-word invariant-loop decreases-loop
+add-word : tie.Need-overflow_add-i invariant-loop decreases-loop
 add-word c = search rules
 
-word-requires-2 : tie.Need-word-requires-2 invariant-loop decreases-loop
-word-requires-2 c κs = let s = c.before.before.before.before.args.tray.now in omega (arith, table-inside s (table_says s c.before.before.before.before.requires), c.before.before.word.ensures.0, c.loop-test.true)
+word-requires-2 : tie.Need-word-requires invariant-loop decreases-loop
+word-requires-2 c κs = let s = c.args.tray.now in omega (arith, table-inside s (table_says s c.requires), c.word-shots.ensures.0, c.loop-i-test.true)
 
-add-end : tie.Need-overflow-add-end invariant-loop decreases-loop
+add-end : tie.Need-overflow_add-end invariant-loop decreases-loop
 add-end c =
-    let o = c.before.before.before.before.before in
+    let o = c in
     let s = o.args.tray.now in
-    let w = c.before.before.before.word.ensures.0 in
-    let l : c.before.before.loop.i < shots_in s = omega (arith, w, c.before.loop-test.true) in
-    omega (arith, body-inside s (table_says s o.requires) _ l, c.before.before.loop.invariant.1, c.word2.ensures.0)
+    let w = c.word-shots.ensures.0 in
+    let l : c.loop-i.i < shots_in s = omega (arith, w, c.loop-i-test.true) in
+    omega (arith, body-inside s (table_says s o.requires) _ l, c.loop-i.invariant.1, c.word.ensures.0)
 
-sub-bad-error : tie.Need-overflow-sub-bad-error invariant-loop decreases-loop
+sub-bad-error : tie.Need-slice_bounds-bad_error-count invariant-loop decreases-loop
 sub-bad-error c = search rules
 
-part-bad-error-start : tie.Need-slice-bounds-bad-error-start invariant-loop decreases-loop
+part-bad-error-start : tie.Need-slice_bounds-bad_error-start invariant-loop decreases-loop
 part-bad-error-start c = search rules
 
-part-bad-error-end : tie.Need-slice-bounds-bad-error-end invariant-loop decreases-loop
+part-bad-error-end : tie.Need-slice_bounds-bad_error-end invariant-loop decreases-loop
 part-bad-error-end c =
-    let o = c.before.before.before.before.before in
+    let o = c in
     let s = o.args.tray.now in
-    let w = c.before.before.before.word.ensures.0 in
-    let l : c.before.before.loop.i < shots_in s = omega (arith, w, c.before.loop-test.true) in
-    omega (arith, body-inside s (table_says s o.requires) _ l, c.before.before.loop.invariant.1, c.word2.ensures.0)
+    let w = c.word-shots.ensures.0 in
+    let l : c.loop-i.i < shots_in s = omega (arith, w, c.loop-i-test.true) in
+    omega (arith, body-inside s (table_says s o.requires) _ l, c.loop-i.invariant.1, c.word.ensures.0)
 
-bad-error-requires : tie.Need-bad-error-requires invariant-loop decreases-loop
+bad-error-requires : tie.Need-bad_error-requires invariant-loop decreases-loop
 bad-error-requires c κs = search rules
 
-enum_told : tie.Need-enum-told invariant-loop decreases-loop
+enum_told : tie.Need-enum_told-1 invariant-loop decreases-loop
 enum_told c = search rules
 
-returns : tie.Need-returns invariant-loop decreases-loop
+returns : tie.Need-returns-in-At invariant-loop decreases-loop
 unfolding bad_shot part
 returns c =
-    let o = c.before.before.before.before.before.before.before.before.before in
+    let o = c in
     let s = o.args.tray.now in
-    let w = c.before.before.before.before.before.before.before.word.ensures.0 in
-    let l : c.before.before.before.before.before.before.loop.i < shots_in s = omega (arith, w, c.before.before.before.before.before.loop-test.true) in
-    found _ _ _ l c.before.before.before.before.before.before.loop.invariant.2
-    (fails s o.args.d o.args.n o.args.count _ _ _ c.before.before.before.before.before.before.loop.invariant.1 c.before.before.before.before.word2.ensures.0
-    (simp add-sub_cancel_left at c.before.before.bad-error.ensures) c.enum_told.given.1)
+    let w = c.word-shots.ensures.0 in
+    let l : c.loop-i.i < shots_in s = omega (arith, w, c.loop-i-test.true) in
+    found _ _ _ l c.loop-i.invariant.2
+    (fails s o.args.d o.args.n o.args.count _ _ _ c.loop-i.invariant.1 c.word.ensures.0
+    (simp add-sub_cancel_left at c.bad_error.ensures) c.in-At.is)
 
-enum-told-2 : tie.Need-enum-told-2 invariant-loop decreases-loop
+enum-told-2 : tie.Need-enum_told-in_default invariant-loop decreases-loop
 enum-told-2 c = search rules
 
-add-i : tie.Need-overflow-add-i invariant-loop decreases-loop
+add-i : tie.Need-overflow_add-i-in-loop-i invariant-loop decreases-loop
 add-i c = search rules
 
-loop-less : tie.Need-loop-smaller invariant-loop decreases-loop
+loop-less : tie.Need-loop-i-smaller invariant-loop decreases-loop
 loop-less c = omega arith
 
-loop-again : tie.Need-loop-preserved invariant-loop decreases-loop
+loop-again : tie.Need-loop-i-preserved invariant-loop decreases-loop
 unfolding start_of part
 loop-again c =
-    let o = c.before.before.before.before.before.before.before.before.before in
+    let o = c in
     let s = o.args.tray.now in
-    let w = c.before.before.before.before.before.before.before.word.ensures.0 in
-    let l : c.before.before.before.before.before.before.loop.i < shots_in s = omega (arith, w, c.before.before.before.before.before.loop-test.true) in (
+    let w = c.word-shots.ensures.0 in
+    let l : c.loop-i.i < shots_in s = omega (arith, w, c.loop-i-test.true) in (
       omega arith,
-      rw (add-one c.before.before.before.before.before.before.loop.i) (ap₂ ◌+◌ c.before.before.before.before.before.before.loop.invariant.1 c.before.before.before.before.word2.ensures.0),
-      none_yet _ _ c.before.before.before.before.before.before.loop.invariant.2
-          (passes s o.args.d o.args.n o.args.count _ _ _ c.before.before.before.before.before.before.loop.invariant.1 c.before.before.before.before.word2.ensures.0
-          (simp add-sub_cancel_left at c.before.before.bad-error.ensures) c.enum-told2.given.1),
+      rw (add-one c.loop-i.i) (ap₂ ◌+◌ c.loop-i.invariant.1 c.word.ensures.0),
+      none_yet _ _ c.loop-i.invariant.2
+          (passes s o.args.d o.args.n o.args.count _ _ _ c.loop-i.invariant.1 c.word.ensures.0
+          (simp add-sub_cancel_left at c.bad_error.ensures) c.in_default.is),
     )
 
-returns-2 : tie.Need-returns-2 invariant-loop decreases-loop
+returns-2 : tie.Need-returns invariant-loop decreases-loop
 unfolding bad_shot
-returns-2 c = rw (ap (first_not _) (sym c.before.before.word.ensures.0 ∙ sym (le_antisymm c.before.loop.invariant.0 c.loop-test.false))) (sym c.before.loop.invariant.2)
+returns-2 c = rw (ap (first_not _) (sym c.word-shots.ensures.0 ∙ sym (le_antisymm c.loop-i.invariant.0 c.loop-i-test.false))) (sym c.loop-i.invariant.2)
 
-pub bad-shot-spec : {M : Type 1} → statement M
-bad-shot-spec =
+pub bad_shot_spec : {M : Type 1} → statement M
+bad_shot_spec =
     tie.close
     (tie.spec
     invariant-loop

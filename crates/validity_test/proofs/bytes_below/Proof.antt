@@ -34,14 +34,14 @@ larger-below x y d = by (dec_lt x y) (dec_lt x d) (dec_lt y d)
 
 loop-holds : tie.Need-loop-k-init invariant-loop decreases-loop
 unfolding all
-loop-holds c = (omega arith, lt-ltb _ _ c.before.requires.0)
+loop-holds c = (omega arith, lt-ltb _ _ c.requires.0)
 
 loop-again : tie.Need-loop-k-preserved invariant-loop decreases-loop
 unfolding all
-loop-again c = let s = c in (omega arith, rw (add-one c.before.before.before.loop-k.k, c.larger-most.ensures, ← c.before.before.before.loop-k.invariant.1) (larger-below c.before.before.before.loop-k.most (get_or s.args.t.now c.before.before.before.loop-k.k 0) s.args.d))
+loop-again c = let s = c in (omega arith, rw (add-one c.loop-k.k, c.larger-most.ensures, ← c.loop-k.invariant.1) (larger-below c.loop-k.most (get_or s.args.t.now c.loop-k.k 0) s.args.d))
 
 returns : tie.Need-returns invariant-loop decreases-loop
-returns c = let e : c.before.loop-k.k ≡ c.before.before.before.args.count = omega arith in rw e at c.before.loop-k.invariant.1
+returns c = let e : c.loop-k.k ≡ c.args.count = omega arith in rw e at c.loop-k.invariant.1
 
 pub bytes_below_spec : {M : Type 1} → statement M
 bytes_below_spec =

@@ -11,22 +11,22 @@ use Rattle.validity.proofs.Exactly.{bytes-tableau}
 use Rattle.validity_test.proofs.is_valid.Statement.{statement}
 use Rattle.validity_test.proofs.is_valid.Tie as tie
 
-below : (c : tie.Else-not-bytes_below) → let s = c in all (byte_below s.before.before.before.args.d s.before.before.before.args.t.now) (2 * s.before.before.before.args.n * (2 * s.before.before.before.args.n + 1)) ≡ true
-below c = sym c.before.bytes_below.ensures ∙ not-false _ c.if-not-bytes_below.false
+below : (c : tie.Else-not-bytes_below) → let s = c in all (byte_below s.args.d s.args.t.now) (2 * s.args.n * (2 * s.args.n + 1)) ≡ true
+below c = sym c.bytes_below.ensures ∙ c.if-not-bytes_below.false
 
 returns : tie.Need-returns-then-not-bytes_below
 unfolding valid
-returns c = rw (sym c.before.bytes_below.ensures ∙ not-true _ c.if-not-bytes_below.true)
+returns c = rw (sym c.bytes_below.ensures ∙ c.if-not-bytes_below.true)
 
 rows-valid-requires : tie.Need-rows_valid-requires
-rows-valid-requires c κs = let p = c.before.before.before.before.requires in (p.0, p.1, p.2, bytes-tableau _ _ _ p.3 (below c.before))
+rows-valid-requires c κs = let p = c.requires in (p.0, p.1, p.2, bytes-tableau _ _ _ p.3 (below c.before))
 
 returns-2 : tie.Need-returns-then-bytes-lt700
 unfolding valid
 returns-2 c = rw (below c.before.before) c.rows_valid.ensures
 
 rows-by-columns-requires : tie.Need-rows_by_columns-requires
-rows-by-columns-requires c κs = let p = c.before.before.before.before.requires in (p.0, p.1, p.2, bytes-tableau _ _ _ p.3 (below c.before))
+rows-by-columns-requires c κs = let p = c.requires in (p.0, p.1, p.2, bytes-tableau _ _ _ p.3 (below c.before))
 
 returns-3 : tie.Need-returns
 unfolding valid

@@ -5,7 +5,7 @@ use Rattle.validity_test.proofs.pairs_well.Statement.{statement}
 use Rattle.validity_test.proofs.pairs_well.Tie as tie
 
 returns : tie.Need-returns
-returns c = rw (c.before.pairing_at.ensures, c.wanted.ensures)
+returns c = rw (c.pairing_at.ensures, c.wanted.ensures)
 
 pub pairs_well_spec : {M : Type 1} → statement M
 pairs_well_spec = tie.close (tie.spec

@@ -25,14 +25,14 @@ loop-holds c = (omega arith, refl)
 
 returns : tie.Need-returns-then-not-pairs_well invariant-loop decreases-loop
 unfolding row_valid
-returns c = sym (all_fails _ _ _ c.before.before.loop-j-test.true (sym c.before.pairs_well.ensures ∙ not-true _ c.if-not-pairs_well.true))
+returns c = sym (all_fails _ _ _ c.loop-j-test.true (sym c.pairs_well.ensures ∙ c.if-not-pairs_well.true))
 
 loop-again : tie.Need-loop-j-preserved invariant-loop decreases-loop
-loop-again c = (omega arith, all_more _ _ c.before.before.before.loop-j.invariant.1 (sym c.before.pairs_well.ensures ∙ not-false _ c.if-not-pairs_well.false))
+loop-again c = (omega arith, all_more _ _ c.loop-j.invariant.1 (sym c.pairs_well.ensures ∙ c.if-not-pairs_well.false))
 
 returns-2 : tie.Need-returns invariant-loop decreases-loop
 unfolding row_valid
-returns-2 c = sym (ap (all _) (le_antisymm c.loop-j-test.false c.before.loop-j.invariant.0) ∙ c.before.loop-j.invariant.1)
+returns-2 c = sym (ap (all _) (le_antisymm c.loop-j-test.false c.loop-j.invariant.0) ∙ c.loop-j.invariant.1)
 
 pub row_valid_spec : {M : Type 1} → statement M
 row_valid_spec =

@@ -13,10 +13,10 @@ tableau-wider : (d n : ℕ) (t : List ℕ) → d ≤ 31 → Tableau d n t → Ta
 tableau-wider d n t h r = record { room = r.room; below = λ i l. omega (arith, r.below i l) }
 
 lay-columns-requires : tie.Need-lay_columns-requires
-lay-columns-requires c κs = let p = c.before.before.requires in (record { size = p.2; tableau = tableau-wider _ _ _ p.1 p.3 }, refl)
+lay-columns-requires c κs = let p = c.requires in (record { size = p.2; tableau = tableau-wider _ _ _ p.1 p.3 }, refl)
 
 rows-valid-by-requires : tie.Need-rows_valid_by-requires
-rows-valid-by-requires c κs = let p = c.before.before.before.before.before.requires in (p.0, p.1, p.2, tableau-wider _ _ _ p.1 p.3, c.before.before.lay_columns.ensures)
+rows-valid-by-requires c κs = let p = c.requires in (p.0, p.1, p.2, tableau-wider _ _ _ p.1 p.3, c.lay_columns.ensures)
 
 pub rows_by_columns_spec : {M : Type 1} → statement M
 rows_by_columns_spec =

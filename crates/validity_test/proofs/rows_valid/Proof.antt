@@ -24,13 +24,13 @@ unfolding all
 loop-holds c = (omega arith, refl)
 
 returns : tie.Need-returns-then-not-row_valid invariant-loop decreases-loop
-returns c = sym (all_fails _ _ _ c.before.before.loop-i-test.true (sym c.before.row_valid.ensures ∙ not-true _ c.if-not-row_valid.true))
+returns c = sym (all_fails _ _ _ c.loop-i-test.true (sym c.row_valid.ensures ∙ c.if-not-row_valid.true))
 
 loop-again : tie.Need-loop-i-preserved invariant-loop decreases-loop
-loop-again c = (omega arith, all_more _ _ c.before.before.before.loop-i.invariant.1 (sym c.before.row_valid.ensures ∙ not-false _ c.if-not-row_valid.false))
+loop-again c = (omega arith, all_more _ _ c.loop-i.invariant.1 (sym c.row_valid.ensures ∙ c.if-not-row_valid.false))
 
 returns-2 : tie.Need-returns invariant-loop decreases-loop
-returns-2 c = sym (ap (all _) (le_antisymm c.loop-i-test.false c.before.loop-i.invariant.0) ∙ c.before.loop-i.invariant.1)
+returns-2 c = sym (ap (all _) (le_antisymm c.loop-i-test.false c.loop-i.invariant.0) ∙ c.loop-i.invariant.1)
 
 pub rows_valid_spec : {M : Type 1} → statement M
 rows_valid_spec =

@@ -22,10 +22,10 @@ loop-holds c = (omega arith, refl)
 
 loop-again : tie.Need-loop-k-preserved invariant-loop decreases-loop
 unfolding all
-loop-again c = let l = c.before.before.before.before.before.loop-k in (omega arith, rw (add-one l.k, ← l.invariant.1, c.before.reduce_difference.ensures, c.wanted.ensures))
+loop-again c = let l = c.loop-k in (omega arith, rw (add-one l.k, ← l.invariant.1, c.reduce_difference.ensures, c.wanted.ensures))
 
 returns : tie.Need-returns invariant-loop decreases-loop
-returns c = let e : c.before.loop-k.k ≡ c.before.before.before.before.args.i = omega arith in rw e at c.before.loop-k.invariant.1
+returns c = let e : c.loop-k.k ≡ c.args.i = omega arith in rw e at c.loop-k.invariant.1
 
 pub sums_valid_spec : {M : Type 1} → statement M
 sums_valid_spec =

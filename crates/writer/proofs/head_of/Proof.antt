@@ -5,10 +5,10 @@ use Rattle.written_book.specs.Written.{head_of}
 use Rattle.writer.proofs.head_of.Statement.{statement}
 use Rattle.writer.proofs.head_of.Tie as tie
 
-add-second : tie.Need-overflow-add-second
+add-second : tie.Need-overflow_add-second
 add-second c = search rules
 
-add-third : tie.Need-overflow-add-third
+add-third : tie.Need-overflow_add-third
 add-third c = search rules
 
 low-requires : tie.Need-low-requires
@@ -44,24 +44,24 @@ high-requires-5 c κs = search rules
 returns : tie.Need-returns
 unfolding head_of
 returns c =
-    let c3 = c.before.before.before in
-    let c6 = c3.before.before.before in
-    let c9 = c6.before.before.before in
+    let c3 = c in
+    let c6 = c3 in
+    let c9 = c6 in
     rw (
       c9.low.ensures,
-      c6.before.before.high.ensures,
-      c6.before.low2.ensures,
-      c6.high2.ensures,
-      c3.before.before.low3.ensures,
-      c3.before.high3.ensures,
-      c3.low4.ensures,
-      c.before.before.high4.ensures,
-      c.before.low5.ensures,
-      c.high5.ensures,
+      c6.high.ensures,
+      c6.low-2.ensures,
+      c6.high-2.ensures,
+      c3.low-3.ensures,
+      c3.high-3.ensures,
+      c3.low-4.ensures,
+      c.high-4.ensures,
+      c.low-5.ensures,
+      c.high-5.ensures,
     )
 
-pub head-of-spec : {M : Type 1} → statement M
-head-of-spec =
+pub head_of_spec : {M : Type 1} → statement M
+head_of_spec =
     tie.close
     (tie.spec
     add-second

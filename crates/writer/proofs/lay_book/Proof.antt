@@ -5,10 +5,10 @@ use Rattle.writer.proofs.LaidOut.{laid_out}
 use Rattle.writer.proofs.lay_book.Statement.{statement}
 use Rattle.writer.proofs.lay_book.Tie as tie
 
-head-of-requires : tie.Need-head-of-requires
+head-of-requires : tie.Need-head_of-head-requires
 head-of-requires c κs = search rules
 
-slice-aggregate-lay : tie.Need-slice-aggregate-lay
+slice-aggregate-lay : tie.Need-slice_bounds-lay-end
 slice-aggregate-lay c = search rules
 
 lay-requires : tie.Need-lay-requires
@@ -17,37 +17,37 @@ lay-requires c κs = search rules
 lay-requires-2 : tie.Need-lay-requires-2
 lay-requires-2 c κs = search rules
 
-add-lay : tie.Need-overflow-add-lay
+add-lay : tie.Need-overflow_add-a
 add-lay c = search rules
 
 lay-requires-3 : tie.Need-lay-requires-3
 lay-requires-3 c κs = search rules
 
-add-lay-2 : tie.Need-overflow-add-lay-2
+add-lay-2 : tie.Need-overflow_add-a-2
 add-lay-2 c = search rules
 
-add-lay-3 : tie.Need-overflow-add-lay-3
+add-lay-3 : tie.Need-overflow_add-a-3
 add-lay-3 c = search rules
 
 lay-requires-4 : tie.Need-lay-requires-4
 lay-requires-4 c κs = search rules
 
-same_length : tie.Need-same-length
+same_length : tie.Need-shape_of-out
 same_length c = search rules
 
 returns : tie.Need-returns
 returns c =
-    let l4 = c.before.before in
-    let l3 = l4.before.before.before.before in
-    let l2 = l3.before.before.before.before in
-    let l1 = l2.before.before.before.before in
-    let h = l1.before.before.before in
-    let a = h.before.before.before.before.before.args in
-    rw (l4.lay4.ensures, l3.lay3.ensures, l2.lay2.ensures, l1.lay.ensures, h.head_of.ensures)
+    let l4 = c in
+    let l3 = l4 in
+    let l2 = l3 in
+    let l1 = l2 in
+    let h = l1 in
+    let a = h.args in
+    rw (l4.lay-4.ensures, l3.lay-3.ensures, l2.lay-2.ensures, l1.lay.ensures, h.head_of-head.ensures)
     (laid_out a.d a.n a.ops.now a.errors.now a.choices.now a.out.now)
 
-pub lay-book-spec : {M : Type 1} → statement M
-lay-book-spec =
+pub lay_book_spec : {M : Type 1} → statement M
+lay_book_spec =
     tie.close
     (tie.spec
     head-of-requires
