@@ -29,29 +29,29 @@ use Rattle.direct_book.proofs.Tested.{tested-passes, passes-tested}
 
 module _ (s : List ℕ) {d n measurements : ℕ} (g : Handed s d n measurements) (t results : List ℕ) where
   -- 8
-  pub short-book : {b : Bool} → b ≡ direct_buffers_fit n measurements t results → not b ≡ true → refused 8 0 ≡ direct_tested s t results (read_book s)
+  pub short-book : {b : Bool} → b ≡ direct_buffers_fit n measurements t results → b ≡ false → refused 8 0 ≡ direct_tested s t results (read_book s)
   unfolding direct_tested
-  short-book {b} r h = rw (g.reads, g.counted, sym r ∙ not-true b h)
+  short-book {b} r h = rw (g.reads, g.counted, sym r ∙ h)
 
   -- not 8
-  module _ {b : Bool} (r : b ≡ direct_buffers_fit n measurements t results) (h : not b ≡ false) where
+  module _ {b : Bool} (r : b ≡ direct_buffers_fit n measurements t results) (h : b ≡ true) where
     fits : direct_buffers_fit n measurements t results ≡ true
-    fits = sym r ∙ not-false b h
+    fits = sym r ∙ h
 
     pub room : tableau_bytes n ≤ length t
     room = leb-true _ _ ((and-eq-true_iff (leb (tableau_bytes n) (length t)) (leb (2 * measurements) (length results))).0 fits).0
 
     -- 9
-    pub invalid-book : {v : Bool} → v ≡ valid_for d n t → not v ≡ true → refused 9 0 ≡ direct_tested s t results (read_book s)
+    pub invalid-book : {v : Bool} → v ≡ valid_for d n t → v ≡ false → refused 9 0 ≡ direct_tested s t results (read_book s)
     unfolding direct_tested
-    invalid-book {v} e k = rw (g.reads, g.counted, fits, sym e ∙ not-true v k)
+    invalid-book {v} e k = rw (g.reads, g.counted, fits, sym e ∙ k)
 
     -- not 9
-    pub tested-book : {v : Bool} → v ≡ valid_for d n t → not v ≡ false → {operations errors choices : ℕ}
+    pub tested-book : {v : Bool} → v ≡ valid_for d n t → v ≡ true → {operations errors choices : ℕ}
         → read_book s ≡ accepted d n operations errors choices
         → accepted d n operations errors choices ≡ direct_tested s t results (read_book s)
     unfolding direct_tested
-    tested-book {v} e k reads = rw (reads, g.counted, fits, sym e ∙ not-false v k)
+    tested-book {v} e k reads = rw (reads, g.counted, fits, sym e ∙ k)
 
 -- what the tests have let through
 pub passed : (s t results : List ℕ) {reading : Reading} {b : Numbers}

@@ -26,27 +26,27 @@ room_of n measurements lent e =
 
 module _ (s : List ℕ) {d n measurements : ℕ} (g : Handed s d n measurements) (lent : Buffers) where
   -- 8
-  pub short-book : {b : Bool} → b ≡ frame_buffers_fit n measurements lent → not b ≡ true → frame_refused 8 0 lent ≡ frame_book s lent
+  pub short-book : {b : Bool} → b ≡ frame_buffers_fit n measurements lent → b ≡ false → frame_refused 8 0 lent ≡ frame_book s lent
   unfolding frame_book frame_by_answer
-  short-book {b} r h = rw (g.reads, g.counted, sym r ∙ not-true b h)
+  short-book {b} r h = rw (g.reads, g.counted, sym r ∙ h)
 
   -- not 8
-  module _ {b : Bool} (r : b ≡ frame_buffers_fit n measurements lent) (h : not b ≡ false) where
+  module _ {b : Bool} (r : b ≡ frame_buffers_fit n measurements lent) (h : b ≡ true) where
     fitting : frame_buffers_fit n measurements lent ≡ true
-    fitting = sym r ∙ not-false b h
+    fitting = sym r ∙ h
 
     pub rooms : (tableau_bytes n ≤ length lent.tableau) × Room n measurements lent.results lent.shifts lent.frame
     rooms = room_of n measurements lent fitting
 
     -- 9
-    pub invalid-book : {v : Bool} → v ≡ valid_for d n lent.tableau → not v ≡ true → frame_refused 9 0 lent ≡ frame_book s lent
+    pub invalid-book : {v : Bool} → v ≡ valid_for d n lent.tableau → v ≡ false → frame_refused 9 0 lent ≡ frame_book s lent
     unfolding frame_book frame_by_answer
-    invalid-book {v} e k = rw (g.reads, g.counted, fitting, sym e ∙ not-true v k)
+    invalid-book {v} e k = rw (g.reads, g.counted, fitting, sym e ∙ k)
 
     -- not 9
-    module _ {v : Bool} (e : v ≡ valid_for d n lent.tableau) (k : not v ≡ false) where
+    module _ {v : Bool} (e : v ≡ valid_for d n lent.tableau) (k : v ≡ true) where
       tested : valid_for d n lent.tableau ≡ true
-      tested = sym e ∙ not-false v k
+      tested = sym e ∙ k
 
       pub rows : Valid d n (rows_in lent.tableau)
       rows = valid-rows lent.tableau rooms.0 tested

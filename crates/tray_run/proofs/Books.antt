@@ -29,11 +29,11 @@ use Rattle.tray_run.proofs.Ready.{few-measured, ready}
 
 -- what a branch on a test's answer knows of the test
 module _ {answer test : Bool} (e : answer ≡ test) where
-  pub failed : not answer ≡ true → test ≡ false
-  failed h = sym e ∙ not-true answer h
+  pub failed : answer ≡ false → test ≡ false
+  failed h = sym e ∙ h
 
-  pub held : not answer ≡ false → test ≡ true
-  held h = sym e ∙ not-false answer h
+  pub held : answer ≡ true → test ≡ true
+  held h = sym e ∙ h
 
 -- an accepted book: the reader's answer, and what is handed to the run
 pub record Opened (s : List ℕ) (b : Numbers) : Type 0 where

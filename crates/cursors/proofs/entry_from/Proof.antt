@@ -10,38 +10,38 @@ use Rattle.cursors.proofs.Cursors.{Spent, spent-none, spent-more, first-left, fi
 use Rattle.cursors.proofs.entry_from.Statement.{statement}
 use Rattle.cursors.proofs.entry_from.Tie as tie
 
-abbrev invariant-loop : tie.invariant-loop
+abbrev invariant-loop : tie.invariant-loop-j
 invariant-loop errors k d n count j₀ j = (j ≤ count) × Spent (errors_of errors) j k
 
-abbrev decreases-loop : tie.decreases-loop
+abbrev decreases-loop : tie.decreases-loop-j
 decreases-loop errors k d n count j₀ j = count - j
 
-loop-holds : tie.Need-loop-init invariant-loop decreases-loop
+loop-holds : tie.Need-loop-j-init invariant-loop decreases-loop
 loop-holds c = (omega arith, spent-none)
 
-returns : tie.Need-returns invariant-loop decreases-loop
+returns : tie.Need-returns-then-e-k invariant-loop decreases-loop
 returns c =
-    let l = c.before.before.before.before in
-    let es = l.before.before.args.errors.now in
-    let entry = error-at es l.loop.j (omega arith) ∙ sym c.before.before.error-at.ensures in
-    first-left l.before.before.requires l.loop.invariant.1 (omega (arith, error-count es)) (rw entry c.if1.true)
+    let l = c in
+    let es = l.args.errors.now in
+    let entry = error-at es l.loop-j.j (omega arith) ∙ sym c.error_at-e.ensures in
+    first-left l.requires l.loop-j.invariant.1 (omega (arith, error-count es)) (rw entry c.if-e-k.true)
 
-loop-again : tie.Need-loop-preserved invariant-loop decreases-loop
+loop-again : tie.Need-loop-j-preserved invariant-loop decreases-loop
 loop-again c =
-    let e = c.before.before in
-    let l = e.before.before in
-    let es = l.before.before.args.errors.now in
-    let entry = error-at es l.loop.j (omega arith) ∙ sym e.error-at.ensures in
-    (omega arith, spent-more l.loop.invariant.1 (rw entry c.if1.false))
+    let e = c in
+    let l = e in
+    let es = l.args.errors.now in
+    let entry = error-at es l.loop-j.j (omega arith) ∙ sym e.error_at-e.ensures in
+    (omega arith, spent-more l.loop-j.invariant.1 (rw entry c.if-e-k.false))
 
-returns-2 : tie.Need-returns-2 invariant-loop decreases-loop
+returns-2 : tie.Need-returns invariant-loop decreases-loop
 returns-2 c =
-    let l = c.before in
-    let es = l.before.before.args.errors.now in
-    first-none l.loop.invariant.1 (omega (arith, error-count es))
+    let l = c in
+    let es = l.args.errors.now in
+    first-none l.loop-j.invariant.1 (omega (arith, error-count es))
 
-pub entry-from-spec : {M : Type 1} → statement M
-entry-from-spec =
+pub entry_from_spec : {M : Type 1} → statement M
+entry_from_spec =
     tie.close
     (tie.spec
     invariant-loop

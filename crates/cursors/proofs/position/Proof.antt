@@ -12,26 +12,26 @@ use Rattle.runs.proofs.Results.{measured-step, chosen-step, chosen-most, measure
 use Rattle.cursors.proofs.position.Statement.{statement}
 use Rattle.cursors.proofs.position.Tie as tie
 
-abbrev invariant-loop : tie.invariant-loop
+abbrev invariant-loop : tie.invariant-loop-i
 invariant-loop ops errors k d n at₀ i₀ at i =
     (i ≤ k)
-    × Reached (errors_of errors) at.initial k
+    × Reached (errors_of errors) at.entry k
     × (at.measurements ≡ measured (operations_of d n ops) i)
     × (at.choices ≡ chosen (operations_of d n ops) i)
 
-abbrev decreases-loop : tie.decreases-loop
+abbrev decreases-loop : tie.decreases-loop-i
 decreases-loop ops errors k d n at₀ i₀ at i = k - i
 
-loop-holds : tie.Need-loop-init invariant-loop decreases-loop
+loop-holds : tie.Need-loop-i-init invariant-loop decreases-loop
 unfolding measured chosen
-loop-holds c = (omega arith, c.entry-from.ensures, refl, refl)
+loop-holds c = (omega arith, c.entry_from.ensures, refl, refl)
 
-counted-requires : tie.Need-counted-requires invariant-loop decreases-loop
+counted-requires : tie.Need-counted-at-requires invariant-loop decreases-loop
 counted-requires c κs =
-    let s = c.before.before.before.before.before in
+    let s = c in
     let ops = operations_of s.args.d s.args.n s.args.ops.now in
-    let i = c.before.loop.i in
-    let so_far = c.before.loop.invariant in
+    let i = c.loop-i.i in
+    let so_far = c.loop-i.invariant in
     let most = chosen-most ops i in (
       omega (arith, s.requires.0),
       s.requires.1 i (omega arith),
@@ -39,13 +39,13 @@ counted-requires c κs =
       omega (arith, so_far.3, most),
     )
 
-loop-again : tie.Need-loop-preserved invariant-loop decreases-loop
+loop-again : tie.Need-loop-i-preserved invariant-loop decreases-loop
 loop-again c =
-    let s = c.before.before.before.before.before.before in
+    let s = c in
     let ops = operations_of s.args.d s.args.n s.args.ops.now in
-    let i = c.before.before.loop.i in
-    let so_far = c.before.before.loop.invariant in
-    let more = c.counted.ensures in (
+    let i = c.loop-i.i in
+    let so_far = c.loop-i.invariant in
+    let more = c.counted-at.ensures in (
       omega arith,
       rw more.0 so_far.1,
       omega (arith, more.1, so_far.2, measured-step ops i),
@@ -54,11 +54,11 @@ loop-again c =
 
 returns : tie.Need-returns invariant-loop decreases-loop
 returns c =
-    let i = c.before.loop.invariant in
-    rw (← le_antisymm i.0 c.loop-test.false) (record { reached = rw (le_antisymm i.0 c.loop-test.false) i.1; count = i.2 }, i.3)
+    let i = c.loop-i.invariant in
+    rw (← le_antisymm i.0 c.loop-i-test.false) (record { reached = rw (le_antisymm i.0 c.loop-i-test.false) i.1; count = i.2 }, i.3)
 
-pub position-spec : {M : Type 1} → statement M
-position-spec =
+pub position_spec : {M : Type 1} → statement M
+position_spec =
     tie.close
     (tie.spec
     invariant-loop

@@ -7,36 +7,36 @@ use Rattle.direct_run.proofs.Books.{passed, many, few, ended}
 use Rattle.direct_run.proofs.direct_run.Statement.{statement}
 use Rattle.direct_run.proofs.direct_run.Tie as tie
 
-returns : tie.Need-returns
+returns : tie.Need-returns-in-Refused
 unfolding direct_book direct_by
 returns c =
-    let m = c.before.before.before in
-    rw (c.refused.ensures, ← m.before.before.tested.ensures.0, m.reading2.given.1, c.before.byte-as-usize.ensures.0)
+    let m = c in
+    rw (c.refused.ensures, ← m.tested-reading.ensures.0, m.in-Refused.is, c.byte_as_usize.ensures.0)
 
-add-finished : tie.Need-overflow-add-finished
+add-finished : tie.Need-overflow_add-finished
 add-finished c =
-    let v = c.before.before.before.before in
-    let a = v.before.before.before.before.before.before.args in
-    let p = passed a.book.now a.t.now a.results.now v.tested.ensures c.before.before.reading.given.1 in
+    let v = c in
+    let a = v.args in
+    let p = passed a.book.now a.t.now a.results.now v.tested-reading.ensures c.in-Accepted.is in
     omega (arith, few a.book.now a.t.now a.results.now p.0)
 
 reach-requires : tie.Need-reach-requires
 reach-requires c κs =
-    let v = c.before.before.before.before.before.before in
-    let a = v.before.before.before.before.before.before.args in
-    let p = passed a.book.now a.t.now a.results.now v.tested.ensures c.before.before.before.before.reading.given.1 in
+    let v = c in
+    let a = v.args in
+    let p = passed a.book.now a.t.now a.results.now v.tested-reading.ensures c.in-Accepted.is in
     (p.0, p.1, omega arith, omega (arith, many a.book.now a.t.now a.results.now p.0))
 
-returns-2 : tie.Need-returns-2
+returns-2 : tie.Need-returns
 returns-2 c =
-    let r = c.before.before.before.before in
-    let v = r.before.before.before.before.before.before.before in
-    let a = v.before.before.before.before.before.before.args in
-    let p = passed a.book.now a.t.now a.results.now v.tested.ensures r.before.before.before.before.before.reading.given.1 in
+    let r = c in
+    let v = r in
+    let a = v.args in
+    let p = passed a.book.now a.t.now a.results.now v.tested-reading.ensures r.in-Accepted.is in
     ended a.book.now a.t.now a.results.now p.0 r.reach.ensures
 
-pub direct-run-spec : {M : Type 1} → statement M
-direct-run-spec =
+pub direct_run_spec : {M : Type 1} → statement M
+direct_run_spec =
     tie.close
     (tie.spec
     (λ c κs. search rules)

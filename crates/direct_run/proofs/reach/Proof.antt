@@ -14,24 +14,24 @@ use Rattle.direct_run.proofs.reach.Tie as tie
 given : (s : tie.Start) → Handed s.args.book.now s.args.numbers.d s.args.numbers.n s.args.numbers.measurements
 given s = handed-reads s.args.book.now s.requires.0.reads (sym s.requires.1)
 
-operations-requires : tie.Need-operations-requires
+operations-requires : tie.Need-operations-ops-requires
 operations-requires c κs = let g = given c.before.before.before in (g.bodies.room, g.bodies.first)
 
-errors-requires : tie.Need-errors-requires
+errors-requires : tie.Need-errors-errors-requires
 errors-requires c κs = let g = given c.before.before.before.before in (g.bodies.room, g.bodies.second)
 
-choices-requires : tie.Need-choices-requires
+choices-requires : tie.Need-choices-choices-requires
 choices-requires c κs = let g = given c.before.before.before.before.before in (g.bodies.room, g.bodies.third)
 
 run-requires : tie.Need-run-requires
 run-requires c κs =
-    let h = c.before.before in
-    let s = h.before.before.before.before.before.before in
-    let g = given s in
+    let h = c in
+    let s = h in
+    let g = given s.before.before.before.before.before.before.before.before in
     let p = s.requires.0 in
-    let b1 = h.before.before.operations.ensures in
-    let b2 = h.before.errors.ensures in
-    let b3 = h.choices.ensures in
+    let b1 = h.operations-ops.ensures in
+    let b2 = h.errors-errors.ensures in
+    let b3 = h.choices-choices.ensures in
     let many = op-count s.args.numbers.d s.args.numbers.n (body_of s.args.book.now 1) in (
       bodies_of s.args.book.now g b1 b2 b3,
       rw (b1, ← g.first) p.results-room,
@@ -43,18 +43,18 @@ run-requires c κs =
 
 returns : tie.Need-returns
 returns c =
-    let r = c.before.before.before.before in
-    let h = r.before.before.before in
-    let s = h.before.before.before.before.before.before in
-    let g = given s in
-    let b1 = h.before.before.operations.ensures in
-    let b2 = h.before.errors.ensures in
-    let b3 = h.choices.ensures in
+    let r = c in
+    let h = r in
+    let s = h in
+    let g = given s.before.before.before.before.before.before.before.before.before.before.before.before.before in
+    let b1 = h.operations-ops.ensures in
+    let b2 = h.errors-errors.ensures in
+    let b3 = h.choices-choices.ensures in
     with_numbers s.requires.1
     (rw (b1, b2, b3, ← g.first, ← g.second, ← g.third) at r.run.ensures)
 
-pub reach-spec : {M : Type 1} → statement M
-reach-spec =
+pub reach_spec : {M : Type 1} → statement M
+reach_spec =
     tie.close
     (tie.spec
     operations-requires

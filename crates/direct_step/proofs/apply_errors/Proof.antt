@@ -18,68 +18,68 @@ use Rattle.runs.proofs.Taken.{rows_taken, taken_more, taken-before, taken-after,
 use Rattle.direct_step.proofs.apply_errors.Statement.{statement}
 use Rattle.direct_step.proofs.apply_errors.Tie as tie
 
-abbrev invariant-loop : tie.invariant-loop
+abbrev invariant-loop : tie.invariant-loop-i
 invariant-loop t₀ errors j k tables d n count i₀ t i =
     Passing (errors_of errors) i k × (t ≡ errors_on_rows d n (errors_of errors) k t₀ i) × Valid d n t × (length t ≡ length t₀)
 
-abbrev decreases-loop : tie.decreases-loop
+abbrev decreases-loop : tie.decreases-loop-i
 decreases-loop t₀ errors j k tables d n count i₀ t i = count - i
 
-loop-holds : tie.Need-loop-init invariant-loop decreases-loop
+loop-holds : tie.Need-loop-i-init invariant-loop decreases-loop
 unfolding errors_on_rows
 loop-holds c =
-    let s = c.before.before.before in
+    let s = c in
     (passing-first s.requires.1, sym (taken-before (rows_taken _ _ _ _ s.args.t.now) s.requires.1), s.requires.3, refl)
 
-returns : tie.Need-returns invariant-loop decreases-loop
+returns : tie.Need-returns-then-e-k invariant-loop decreases-loop
 returns c =
-    let l = c.before.before.before.before in
-    let s = l.before.before.before.before in
+    let l = c in
+    let s = l in
     let a = s.args in
     let es = a.errors.now in
-    let in_list : l.loop.i < length (errors_of es) = omega (arith, error-count es) in
-    let entry = error-at es l.loop.i (omega arith) ∙ sym c.before.before.error-at.ensures in
-    let end = passing-other l.loop.invariant.0 in_list (rw entry c.if1.true) s.requires.2.in_order in
-    (l.loop.invariant.1 ∙ sym (taken-after (rows_taken a.d a.n (errors_of es) a.k a.t.now) end), end, l.loop.invariant.2)
+    let in_list : l.loop-i.i < length (errors_of es) = omega (arith, error-count es) in
+    let entry = error-at es l.loop-i.i (omega arith) ∙ sym c.error_at-e.ensures in
+    let end = passing-other l.loop-i.invariant.0 in_list (rw entry c.if-e-k.true) s.requires.2.in_order in
+    (l.loop-i.invariant.1 ∙ sym (taken-after (rows_taken a.d a.n (errors_of es) a.k a.t.now) end), end, l.loop-i.invariant.2)
 
-error-rows-requires : tie.Need-error-rows-requires invariant-loop decreases-loop
+error-rows-requires : tie.Need-error_rows-requires invariant-loop decreases-loop
 error-rows-requires c κs =
-    let l = c.before.before.before.before.before in
-    let s = l.before.before.before.before in
+    let l = c in
+    let s = l in
     let es = s.args.errors.now in
-    let in_list : l.loop.i < length (errors_of es) = omega (arith, error-count es) in
-    let entry = error-at es l.loop.i (omega arith) ∙ sym c.before.before.before.error-at.ensures in
-    (s.requires.0.qudits, rw (← entry) (s.requires.2.each l.loop.i in_list), s.requires.0.made, valid-tableau _ _ _ l.loop.invariant.2)
+    let in_list : l.loop-i.i < length (errors_of es) = omega (arith, error-count es) in
+    let entry = error-at es l.loop-i.i (omega arith) ∙ sym c.error_at-e.ensures in
+    (s.requires.0.qudits, rw (← entry) (s.requires.2.each l.loop-i.i in_list), s.requires.0.made, valid-tableau _ _ _ l.loop-i.invariant.2)
 
-loop-again : tie.Need-loop-preserved invariant-loop decreases-loop
+loop-again : tie.Need-loop-i-preserved invariant-loop decreases-loop
 loop-again c =
-    let r = c.before.before in
-    let e = r.before.before.before.before in
-    let l = e.before.before in
-    let s = l.before.before.before.before in
+    let r = c in
+    let e = r in
+    let l = e in
+    let s = l in
     let a = s.args in
     let es = a.errors.now in
-    let in_list : l.loop.i < length (errors_of es) = omega (arith, error-count es) in
-    let entry = error-at es l.loop.i (omega arith) ∙ sym e.error-at.ensures in
-    let here : (err_at (errors_of es) l.loop.i).place ≡ a.k = rw entry r.before.before.if1.false in
+    let in_list : l.loop-i.i < length (errors_of es) = omega (arith, error-count es) in
+    let entry = error-at es l.loop-i.i (omega arith) ∙ sym e.error_at-e.ensures in
+    let here : (err_at (errors_of es) l.loop-i.i).place ≡ a.k = rw entry r.if-e-k.false in
     let taken = rows_taken a.d a.n (errors_of es) a.k a.t.now in (
-      passing-more l.loop.invariant.0 in_list here,
-      rw (taken_more taken l.loop.i here, ← l.loop.invariant.1, entry) r.error-rows.ensures,
-      rw r.error-rows.ensures (error-keeps-valid _ _ (dimension _ s.requires.0.dimension) _ (rw (← entry) (s.requires.2.each l.loop.i in_list)) _ l.loop.invariant.2),
+      passing-more l.loop-i.invariant.0 in_list here,
+      rw (taken_more taken l.loop-i.i here, ← l.loop-i.invariant.1, entry) r.error_rows.ensures,
+      rw r.error_rows.ensures (error-keeps-valid _ _ (dimension _ s.requires.0.dimension) _ (rw (← entry) (s.requires.2.each l.loop-i.i in_list)) _ l.loop-i.invariant.2),
       omega arith,
     )
 
-returns-2 : tie.Need-returns-2 invariant-loop decreases-loop
+returns-2 : tie.Need-returns invariant-loop decreases-loop
 returns-2 c =
-    let l = c.before in
-    let s = l.before.before.before.before in
+    let l = c in
+    let s = l in
     let a = s.args in
     let es = a.errors.now in
-    let end = passing-last l.loop.invariant.0 (omega (arith, error-count es)) in
-    (l.loop.invariant.1 ∙ sym (taken-after (rows_taken a.d a.n (errors_of es) a.k a.t.now) end), end, l.loop.invariant.2)
+    let end = passing-last l.loop-i.invariant.0 (omega (arith, error-count es)) in
+    (l.loop-i.invariant.1 ∙ sym (taken-after (rows_taken a.d a.n (errors_of es) a.k a.t.now) end), end, l.loop-i.invariant.2)
 
-pub apply-errors-spec : {M : Type 1} → statement M
-apply-errors-spec =
+pub apply_errors_spec : {M : Type 1} → statement M
+apply_errors_spec =
     tie.close
     (tie.spec
     invariant-loop

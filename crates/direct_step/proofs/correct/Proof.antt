@@ -9,16 +9,22 @@ use Rattle.measure_step.proofs.Fits.{minus-valid}
 use Rattle.direct_step.proofs.correct.Statement.{statement}
 use Rattle.direct_step.proofs.correct.Tie as tie
 
-minus-x-rows-requires : tie.Need-minus-x-rows-requires
+minus-x-rows-requires : tie.Need-minus_x_rows-requires
 minus-x-rows-requires c κs =
-    let s = c.before.before.before.before.before in
+    let s = c in
     (s.requires.0.qudits, s.requires.1, mod-lt _ (omega (arith, s.requires.0.made.low)), s.requires.0.made, valid-tableau _ _ _ s.requires.3)
 
 returns : tie.Need-returns
 returns c =
-    let s = c.before.before.before.before.before.before.before.before in
-    let done = c.before.before.minus-x-rows.ensures in
+    let s = c in
+    let done = c.minus_x_rows.ensures in
     (done, minus-valid _ (dimension s.args.d s.requires.0.dimension) _ s.requires.3 s.requires.1 done)
 
-pub correct-spec : {M : Type 1} → statement M
-correct-spec = tie.close (tie.spec (λ c. search rules) (λ c. search rules) (λ c. search rules) minus-x-rows-requires (λ c. search rules) returns)
+pub correct_spec : {M : Type 1} → statement M
+correct_spec = tie.close (tie.spec
+    (λ c. search rules)
+    (λ c. search rules)
+    (λ c. search rules)
+    minus-x-rows-requires
+    (λ c. search rules)
+    returns)

@@ -9,9 +9,9 @@ use Rattle.direct_step.proofs.operate.Tie as tie
 
 perform-requires : tie.Need-perform-requires
 perform-requires c κs =
-    let s = c.before.before.before.before.before.before.before.before in
+    let s = c in
     let a = s.args in
-    let o = ap (λ (step : Step). step.operation) c.before.before.step_of_lem.ensures in (
+    let o = ap (λ (step : Step). step.operation) c.step_of-step.ensures in (
       s.requires.1,
       rw o s.requires.2,
       rw o s.requires.3,
@@ -23,9 +23,14 @@ perform-requires c κs =
 
 returns : tie.Need-returns
 returns c =
-    let o = ap (λ (step : Step). step.operation) c.before.before.before.before.before.before.before.step_of_lem.ensures in
-    let done = c.before.before.before.before.perform.ensures in
+    let o = ap (λ (step : Step). step.operation) c.step_of-step.ensures in
+    let done = c.perform.ensures in
     (rw (← o) done.0, done.1)
 
-pub operate-spec : {M : Type 1} → statement M
-operate-spec = tie.close (tie.spec (λ c κs. search rules) perform-requires (λ c. search rules) (λ c. search rules) returns)
+pub operate_spec : {M : Type 1} → statement M
+operate_spec = tie.close (tie.spec
+    (λ c κs. search rules)
+    perform-requires
+    (λ c. search rules)
+    (λ c. search rules)
+    returns)

@@ -20,40 +20,40 @@ earlier {j} {t} {m} e h = ltb-true m j (rw e at h)
 
 measure-requires : tie.Need-measure-requires
 measure-requires c κs =
-    let s = c.before.before.before.before.before.before.before.before.before in
-    let e = c.before.before.before.operation.given.1 in
+    let s = c in
+    let e = c.in-Measure.is in
     (s.requires.0, ltb-true _ _ (rw e at s.requires.1), rw e at s.requires.4, omega (arith, rw e at s.requires.5), s.requires.6)
 
 reset-requires : tie.Need-reset-requires
 reset-requires c κs =
-    let s = c.before.before.before.before.before.before.before.before in
-    let e = c.before.before.operation2.given.1 in
+    let s = c in
+    let e = c.in-Reset.is in
     (s.requires.0, ltb-true _ _ (rw e at s.requires.1), rw e at s.requires.4, s.requires.6)
 
 correct-requires : tie.Need-correct-requires
 correct-requires c κs =
-    let s = c.before.before.before.before.before.before.before.before.before in
-    let e = c.before.before.before.operation3.given.1 in
+    let s = c in
+    let e = c.in-Correct.is in
     (s.requires.0, ltb-true _ _ (rw e at s.requires.1), omega (arith, earlier e s.requires.2, s.requires.5), s.requires.6)
 
-returns : tie.Need-returns
+returns : tie.Need-returns-in-Measure
 unfolding direct_kind
-returns c = (rw c.before.before.before.before.before.before.before.before.operation.given.1 c.before.before.before.before.measure.ensures.0, c.before.before.before.before.measure.ensures.1)
+returns c = (rw c.in-Measure.is c.measure.ensures.0, c.measure.ensures.1)
 
-returns-2 : tie.Need-returns-2
+returns-2 : tie.Need-returns-in-Reset
 unfolding direct_kind
-returns-2 c = (rw (c.before.before.before.before.before.operation2.given.1, c.before.before.reset.ensures.0), c.before.before.reset.ensures.1)
+returns-2 c = (rw (c.in-Reset.is, c.reset.ensures.0), c.reset.ensures.1)
 
-returns-3 : tie.Need-returns-3
+returns-3 : tie.Need-returns-in-Correct
 unfolding direct_kind
-returns-3 c = (rw (c.before.before.before.before.before.before.operation3.given.1, c.before.before.correct.ensures.0), c.before.before.correct.ensures.1)
+returns-3 c = (rw (c.in-Correct.is, c.correct.ensures.0), c.correct.ensures.1)
 
 -- a gate does not come here
-returns-4 : tie.Need-returns-4
-returns-4 c = let s = c.before.before.before.before.before in absurd (s.requires.3 (is-gate s.args.step.operation c.match.keys4))
+returns-4 : tie.Need-returns-in_default
+returns-4 c = let s = c in absurd (s.requires.3 (is-gate s.args.step.operation c.in_default.in_default-own.keys4))
 
-pub perform-spec : {M : Type 1} → statement M
-perform-spec =
+pub perform_spec : {M : Type 1} → statement M
+perform_spec =
     tie.close
     (tie.spec
     (λ c. search rules)

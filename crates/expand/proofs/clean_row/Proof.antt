@@ -23,33 +23,33 @@ module _ (row : List ℕ) (x : ℕ) (ys clean : List ℕ) (h : length row ≡ 1 
   as_long : length (take 1 (set row 0 x) ++ (ys ++ drop (length (set row 0 x) - 1) (drop 1 (set row 0 x)))) ≡ length row
   as_long = rw whole (omega arith)
 
-slice-write-row : tie.Need-slice-write-row
+slice-write-row : tie.Need-bounds-row-0
 slice-write-row c = search rules
 
-sub-copy : tie.Need-overflow-sub-copy
+sub-copy : tie.Need-slice_bounds-copy-count
 sub-copy c = simp length-set (omega arith)
 
-part-copy-start : tie.Need-slice-bounds-copy-start
+part-copy-start : tie.Need-slice_bounds-copy-start
 part-copy-start c = simp length-set (omega arith)
 
-part-copy-end : tie.Need-slice-bounds-copy-end
+part-copy-end : tie.Need-slice_bounds-copy-end
 part-copy-end c = search rules
 
 copy-requires : tie.Need-copy-requires
 copy-requires c κs = simp (length-take, length-drop, length-set) (omega arith)
 
-same_length : tie.Need-same-length
+same_length : tie.Need-shape_of-row
 same_length c =
-    let s = c.before.before.before.before.before.before in
-    as_long s.args.row.now _ _ s.args.clean.now s.requires c.before.before.copy.ensures
+    let s = c in
+    as_long s.args.row.now _ _ s.args.clean.now s.requires c.copy.ensures
 
 returns : tie.Need-returns
 returns c =
-    let s = c.before.before.before.before.before.before in
-    whole s.args.row.now _ _ s.args.clean.now s.requires c.before.before.copy.ensures
+    let s = c in
+    whole s.args.row.now _ _ s.args.clean.now s.requires c.copy.ensures
 
-pub clean-row-spec : {M : Type 1} → statement M
-clean-row-spec =
+pub clean_row_spec : {M : Type 1} → statement M
+clean_row_spec =
     tie.close
     (tie.spec
     slice-write-row

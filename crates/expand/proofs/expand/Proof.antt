@@ -39,59 +39,59 @@ module _ (tray : List ℕ) (first : ℕ) (clean : List ℕ) (w count i k : ℕ) 
       let few : noisy_among tray first (suc (i - 1)) ≤ i - 1 = omega (arith, ap (noisy_among tray first) q) in
       rw e (expanding_more tray first clean w r.width count (i - 1) l out out' r.room few (rw q at a))
 
-abbrev invariant-loop : tie.invariant-loop
+abbrev invariant-loop : tie.invariant-loop-k
 invariant-loop out₀ tray clean w first count noisy i₀ k₀ out i k = (i ≤ count) × (k ≡ noisy_among tray first i) × Expanding tray first clean w count i out₀ out
 
-abbrev decreases-loop : tie.decreases-loop
+abbrev decreases-loop : tie.decreases-loop-k
 decreases-loop out₀ tray clean w first count noisy i₀ k₀ out i k = i
 
-loop-holds : tie.Need-loop-init invariant-loop decreases-loop
+loop-holds : tie.Need-loop-k-init invariant-loop decreases-loop
 loop-holds c =
-    let s = c.before.before.before in
+    let s = c in
     (omega arith, s.requires.1, expanding_none s.args.tray.now s.args.first s.args.clean.now s.args.w)
 
-sub-i : tie.Need-overflow-sub-i invariant-loop decreases-loop
+sub-i : tie.Need-overflow_sub-i invariant-loop decreases-loop
 sub-i c = omega arith
 
-row-at-requires : tie.Need-row-at-requires invariant-loop decreases-loop
+row-at-requires : tie.Need-row_at-k-requires invariant-loop decreases-loop
 row-at-requires c κs =
-    let s = c.before.before.before.before.before.before in
+    let s = c in
     let a = s.args in
-    let l = c.before.before.loop in
-    let t = c.before.loop-test.true in (
+    let l = c.loop-k in
+    let t = c.loop-k-test.true in (
       turn-room a.tray.now a.first a.clean.now a.w a.count l.i l.k a.out.now l.out l.invariant.2 l.invariant.0 l.invariant.1 t s.requires.0,
       among_next a.tray.now a.first a.clean.now a.w a.count l.i l.k a.out.now l.out l.invariant.2 l.invariant.0 l.invariant.1 t,
       omega arith,
     )
 
-loop-less : tie.Need-loop-smaller invariant-loop decreases-loop
+loop-less : tie.Need-loop-k-smaller invariant-loop decreases-loop
 loop-less c = omega arith
 
-loop-again : tie.Need-loop-preserved invariant-loop decreases-loop
+loop-again : tie.Need-loop-k-preserved invariant-loop decreases-loop
 loop-again c =
-    let s = c.before.before.before.before.before.before.before.before.before in
+    let s = c in
     let a = s.args in
-    let l = c.before.before.before.before.before.loop in
-    let t = c.before.before.before.before.loop-test.true in
-    let e = c.before.before.row_at.ensures in (
+    let l = c.loop-k in
+    let t = c.loop-k-test.true in
+    let e = c.row_at-k.ensures in (
       omega arith,
       e.0,
       turn a.tray.now a.first a.clean.now a.w a.count l.i l.k a.out.now l.out l.invariant.2 l.invariant.0 l.invariant.1 t s.requires.0 _
           e.1,
     )
 
-same_length : tie.Need-same-length invariant-loop decreases-loop
-same_length c = c.before.loop.invariant.2.len
+same_length : tie.Need-shape_of-out invariant-loop decreases-loop
+same_length c = c.loop-k.invariant.2.len
 
 returns : tie.Need-returns invariant-loop decreases-loop
 returns c =
-    let a = c.before.before.before.before.before.args in
-    let l = c.before.loop in
+    let a = c.args in
+    let l = c.loop-k in
     let full : l.i ≤ noisy_among a.tray.now a.first l.i = omega arith in
     expanding_all a.tray.now a.first a.clean.now a.w a.count l.i a.out.now l.out full l.invariant.2
 
-pub expand-spec : {M : Type 1} → statement M
-expand-spec =
+pub expand_spec : {M : Type 1} → statement M
+expand_spec =
     tie.close
     (tie.spec
     invariant-loop

@@ -42,86 +42,86 @@ module _ (tray : List ℕ) (first i noisy x : ℕ) (among : noisy ≡ noisy_amon
         ∙ ap (λ (zs : List ℕ). put (i * w) w zs out)
         (ap (λ (y : ℕ). part (y * w) w out) q ∙ sym (row_noisy tray first clean w out i (λ z. e (size ∙ z))))
 
-mul-s : tie.Need-overflow-mul-s
+mul-s : tie.Need-overflow_mul-s
 mul-s c = search rules
 
-add-e : tie.Need-overflow-add-e
+add-e : tie.Need-overflow_add-e
 add-e c = search rules
 
-add-word : tie.Need-overflow-add-word
+add-word : tie.Need-overflow_add-first
 add-word c = search rules
 
-mul-word : tie.Need-overflow-mul-word
+mul-word : tie.Need-overflow_mul-first
 mul-word c = search rules
 
-add-word-2 : tie.Need-overflow-add-word-2
+add-word-2 : tie.Need-overflow_add-first-2
 add-word-2 c = search rules
 
 word-requires : tie.Need-word-requires
 word-requires c κs = search rules
 
-sub-clean-row : tie.Need-overflow-sub-clean-row
+sub-clean-row : tie.Need-slice_bounds-clean_row-count
 sub-clean-row c = search rules
 
-part-clean-row-start : tie.Need-slice-bounds-clean-row-start
+part-clean-row-start : tie.Need-slice_bounds-clean_row-start
 part-clean-row-start c = search rules
 
-part-clean-row-end : tie.Need-slice-bounds-clean-row-end
+part-clean-row-end : tie.Need-slice_bounds-clean_row-end
 part-clean-row-end c = search rules
 
-clean-row-requires : tie.Need-clean-row-requires
+clean-row-requires : tie.Need-clean_row-requires
 clean-row-requires c κs = search rules
 
-same_length : tie.Need-same-length
+same_length : tie.Need-shape_of-out-then-word-eq0
 same_length c = search rules
 
-returns : tie.Need-returns
+returns : tie.Need-returns-then-word-eq0
 unfolding put
 returns c =
-    let s = c.before.before.before.before.before.before.before.before.before in
+    let s = c in
     let a = s.args in
-    let d = c.before.before.before.before.before.word.ensures.0 in
-    let e = c.before.before.before.before.if1.true in (
+    let d = c.word.ensures.0 in
+    let e = c.if-word-eq0.true in (
       none_more a.tray.now a.first a.i a.noisy _ s.requires.1 d e,
       simp add-sub_cancel_left
           (put-clean a.tray.now a.first a.i a.noisy _ s.requires.1 d a.clean.now a.w a.out.now _ e
-          c.before.before.clean-row.ensures),
+          c.clean_row.ensures),
     )
 
-sub-before : tie.Need-overflow-sub-before
+sub-before : tie.Need-overflow_sub-before
 sub-before c =
-    let s = c.before.before.before.before.before in
+    let s = c in
     let a = s.args in
-    omega (arith, one_more a.tray.now a.first a.i a.noisy _ s.requires.1 c.before.word.ensures.0 c.if1.false)
+    omega (arith, one_more a.tray.now a.first a.i a.noisy _ s.requires.1 c.word.ensures.0 c.if-word-eq0.false)
 
-mul-move-row : tie.Need-overflow-mul-move-row
-mul-move-row c = let a = c.before.before.before.before.before.before.args in early-fits _ a.i a.w (omega arith) (omega arith)
+mul-move-row : tie.Need-overflow_mul-before
+mul-move-row c = let a = c.args in early-fits _ a.i a.w (omega arith) (omega arith)
 
-move-row-requires : tie.Need-move-row-requires
+move-row-requires : tie.Need-move_row-requires
 move-row-requires c κs =
-    let s = c.before.before.before.before.before.before in
+    let s = c in
     let a = s.args in
-    let more = one_more a.tray.now a.first a.i a.noisy _ s.requires.1 c.before.before.word.ensures.0 c.before.if1.false in
+    let more = one_more a.tray.now a.first a.i a.noisy _ s.requires.1 c.word.ensures.0 c.if-word-eq0.false in
     (row_in _ a.i a.w (omega (arith, more)), omega (arith, s.requires.0.room))
 
-same-length-2 : tie.Need-same-length-2
+same-length-2 : tie.Need-shape_of-out
 same-length-2 c = search rules
 
-returns-2 : tie.Need-returns-2
+returns-2 : tie.Need-returns
 returns-2 c =
-    let s = c.before.before.before.before.before.before.before.before.before in
+    let s = c in
     let a = s.args in
-    let d = c.before.before.before.before.before.word.ensures.0 in
-    let e = c.before.before.before.before.if1.false in
+    let d = c.word.ensures.0 in
+    let e = c.if-word-eq0.false in
     let more = one_more a.tray.now a.first a.i a.noisy _ s.requires.1 d e in
     let q : a.noisy - 1 ≡ noisy_among a.tray.now a.first a.i = omega (arith, more) in (
       q,
       put-noisy a.tray.now a.first a.i a.noisy _ s.requires.1 d a.clean.now a.w a.out.now _ (a.noisy - 1) e q
-          c.before.before.Move-row.ensures,
+          c.move_row.ensures,
     )
 
-pub row-at-spec : {M : Type 1} → statement M
-row-at-spec =
+pub row_at_spec : {M : Type 1} → statement M
+row_at_spec =
     tie.close
     (tie.spec
     mul-s

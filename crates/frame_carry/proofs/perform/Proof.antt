@@ -25,82 +25,82 @@ earlier {j} {t} {m} e h = ltb-true m j (rw e at h)
 target : (d n : ℕ) {t m : ℕ} {op : Operation} → op ≡ Correct t m → allowed d n op ≡ true → t < n
 target d n {t} e h = ltb-true t n (rw e at h)
 
-slice-read-x : tie.Need-slice-read-x
+slice-read-x : tie.Need-bounds-frame-q
 slice-read-x c =
-    let s = c.before.before.before.before.before.before.before in
-    let inside : c.before.before.operation.given.0.0 < s.args.n = ltb-true _ _ (rw c.before.before.operation.given.1 at s.requires.1) in
+    let s = c in
+    let inside : c.in-Measure.q < s.args.n = ltb-true _ _ (rw c.in-Measure.is at s.requires.1) in
     omega (arith, s.requires.5.room)
 
-slice-write-shifts : tie.Need-slice-write-shifts
+slice-write-shifts : tie.Need-bounds-shifts-j
 slice-write-shifts c =
-    let s = c.before.before.before.before.before.before.before in
-    let room : s.args.j + 1 ≤ length s.args.shifts.now = rw c.before.before.operation.given.1 at s.requires.4.room in
+    let s = c in
+    let room : s.args.j + 1 ≤ length s.args.shifts.now = rw c.in-Measure.is at s.requires.4.room in
     omega arith
 
-slice-read-reduce-sum : tie.Need-slice-read-reduce-sum
+slice-read-reduce-sum : tie.Need-bounds-results-j
 slice-read-reduce-sum c =
-    let s = c.before.before.before.before.before.before.before.before in
-    let room : 2 * (s.args.j + 1) ≤ length s.args.results.now = rw c.before.before.before.operation.given.1 at s.requires.3 in
+    let s = c in
+    let room : 2 * (s.args.j + 1) ≤ length s.args.results.now = rw c.in-Measure.is at s.requires.3 in
     omega arith
 
-slice-write-results : tie.Need-slice-write-results
+slice-write-results : tie.Need-bounds-results-j-in-Measure
 slice-write-results c =
-    let s = c.before.before.before.before.before.before.before.before.before in
-    let room : 2 * (s.args.j + 1) ≤ length s.args.results.now = rw c.before.before.before.before.operation.given.1 at s.requires.3 in
+    let s = c in
+    let room : 2 * (s.args.j + 1) ≤ length s.args.results.now = rw c.in-Measure.is at s.requires.3 in
     omega arith
 
-slice-write-frame : tie.Need-slice-write-frame
+slice-write-frame : tie.Need-bounds-frame-q-in-Reset
 slice-write-frame c =
-    let s = c.before.before.before.before.before.before in
-    let inside : c.before.operation2.given.0.0 < s.args.n = ltb-true _ _ (rw c.before.operation2.given.1 at s.requires.1) in
+    let s = c in
+    let inside : c.in-Reset.q < s.args.n = ltb-true _ _ (rw c.in-Reset.is at s.requires.1) in
     omega (arith, s.requires.5.room)
 
-slice-read-subtract : tie.Need-slice-read-subtract
-slice-read-subtract c = let s = c.before.before.before.before.before.before.before in omega (arith, target _ _ c.before.before.operation3.given.1 s.requires.1, s.requires.5.room)
+slice-read-subtract : tie.Need-bounds-frame-t
+slice-read-subtract c = let s = c in omega (arith, target _ _ c.in-Correct.is s.requires.1, s.requires.5.room)
 
-slice-read-subtract-2 : tie.Need-slice-read-subtract-2
-slice-read-subtract-2 c = let s = c.before.before.before.before.before.before.before.before in omega (arith, earlier c.before.before.before.operation3.given.1 s.requires.2, s.requires.4.room)
+slice-read-subtract-2 : tie.Need-bounds-shifts-of
+slice-read-subtract-2 c = let s = c in omega (arith, earlier c.in-Correct.is s.requires.2, s.requires.4.room)
 
 subtract-requires : tie.Need-subtract-requires
 subtract-requires c κs =
-    let s = c.before.before.before.before.before.before.before.before in
-    let e = c.before.before.before.operation3.given.1 in
+    let s = c in
+    let e = c.in-Correct.is in
     let inside = target _ _ e s.requires.1 in
     ((dimension s.args.d s.requires.0).high, s.requires.5.below _ (omega arith), s.requires.4.below _ (earlier e s.requires.2))
 
-slice-write-frame-2 : tie.Need-slice-write-frame-2
-slice-write-frame-2 c = let s = c.before.before.before.before.before.before.before.before.before in omega (arith, target _ _ c.before.before.before.before.operation3.given.1 s.requires.1, s.requires.5.room)
+slice-write-frame-2 : tie.Need-bounds-frame-t-in-Correct
+slice-write-frame-2 c = let s = c in omega (arith, target _ _ c.in-Correct.is s.requires.1, s.requires.5.room)
 
-returns : tie.Need-returns
+returns : tie.Need-returns-in-Measure
 unfolding moved_by shifted_by noted_by
 returns c =
-    let e = c.before.before.before.before.operation.given.1 in
-    (rw e, rw (e, c.reduce-sum.ensures), rw e, c.before.before.before.before.before.before.before.before.before.requires.5)
+    let e = c.in-Measure.is in
+    (rw e, rw (e, c.reduce_sum.ensures), rw e, c.requires.5)
 
-returns-2 : tie.Need-returns-2
+returns-2 : tie.Need-returns-in-Reset
 unfolding moved_by shifted_by noted_by
 returns-2 c =
-    let s = c.before.before.before.before.before.before in
-    let e = c.before.operation2.given.1 in
+    let s = c in
+    let e = c.in-Reset.is in
     (rw e, rw e, rw e, powers_store _ s.requires.5 (omega (arith, (dimension s.args.d s.requires.0).low)))
 
-returns-3 : tie.Need-returns-3
+returns-3 : tie.Need-returns-in-Correct
 unfolding moved_by shifted_by noted_by
 returns-3 c =
-    let s = c.before.before.before.before.before.before.before.before.before in
-    let e = c.before.before.before.before.operation3.given.1 in
+    let s = c in
+    let e = c.in-Correct.is in
     let low : 0 < s.args.d = omega (arith, (dimension s.args.d s.requires.0).low) in
     (rw (e, c.subtract.ensures), rw e, rw e, powers_store _ s.requires.5 (rw c.subtract.ensures (mod-lt _ low)))
 
-returns-4 : tie.Need-returns-4
+returns-4 : tie.Need-returns-in_default
 unfolding moved_by shifted_by noted_by
 returns-4 c =
-    let s = c.before.before.before.before.before.before.before.before in
-    let g = is-gate s.args.step.operation c.before.before.before.before.match.keys4 in
-    (rw (g, c.before.before.gate-frame.ensures.0), rw g, rw g, c.before.before.gate-frame.ensures.1)
+    let s = c in
+    let g = is-gate s.args.step.operation c.in_default.in_default-own.keys4 in
+    (rw (g, c.gate_frame.ensures.0), rw g, rw g, c.gate_frame.ensures.1)
 
-pub perform-spec : {M : Type 1} → statement M
-perform-spec =
+pub perform_spec : {M : Type 1} → statement M
+perform_spec =
     tie.close
     (tie.spec
     (λ c. search rules)

@@ -8,17 +8,25 @@ use Rattle.frame_run.specs.FrameBook.{frame_buffers_fit}
 use Rattle.frame_run.proofs.buffers_fit.Statement.{statement}
 use Rattle.frame_run.proofs.buffers_fit.Tie as tie
 
-mul-result-3 : tie.Need-overflow-mul-result-3
+mul-result-3 : tie.Need-overflow_mul-result-3
 mul-result-3 c = omega (arith, sized-bytes c.args.n c.requires)
 
-add-result-2 : tie.Need-overflow-add-result-2
+add-result-2 : tie.Need-overflow_add-result-2
 add-result-2 c = omega (arith, sized-bytes c.args.n c.requires)
 
 returns : tie.Need-returns
 unfolding frame_buffers_fit
 returns c = rw halves
 
-pub buffers-fit-spec : {M : Type 1} → statement M
-buffers-fit-spec =
+pub buffers_fit_spec : {M : Type 1} → statement M
+buffers_fit_spec =
     tie.close
-    (tie.spec (λ c. search rules) (λ c. search rules) (λ c. search rules) mul-result-3 add-result-2 (λ c. search rules) (λ c. search rules) returns)
+    (tie.spec
+    (λ c. search rules)
+    (λ c. search rules)
+    (λ c. search rules)
+    mul-result-3
+    add-result-2
+    (λ c. search rules)
+    (λ c. search rules)
+    returns)

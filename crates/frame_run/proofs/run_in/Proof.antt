@@ -15,14 +15,14 @@ use borrow.Author.Rules.{rules}
 use Rattle.frame_run.proofs.run_in.Statement.{statement}
 use Rattle.frame_run.proofs.run_in.Tie as tie
 
-run-requires : tie.Need-run-requires
+run-requires : tie.Need-run-place-requires
 run-requires c κs =
-    let p = c.before.before.before.before.before.before.before.before.before.before.requires in
+    let p = c.requires in
     (p.0.dimension, p.0.qudits, without_errors p.0.lists, p.1.results-room, p.3)
 
 carry-requires : tie.Need-carry-requires
 carry-requires c κs =
-    let s = c.before.before.before.before.before.before.before.before.before.before.before.before.before.before.before.before.before in
+    let s = c in
     let g = s.requires.0 in
     let ops = operations_of s.args.d s.args.n s.args.ops.now in
     let dim = dimension s.args.d g.dimension in (
@@ -37,16 +37,16 @@ carry-requires c κs =
       rw s.requires.2 (no-frame s.args.d s.args.n (omega arith)).powers,
     )
 
-finish-requires : tie.Need-finish-requires
+finish-requires : tie.Need-finish-verdict-requires
 finish-requires c κs =
-    let v = c.before.before.before.before.before.before.before.before in
-    let r = v.before.before.before.before.before.before.before in
-    let s = r.before.before.before.before.before.before.before.before.before.before.before in
+    let v = c in
+    let r = v in
+    let s = r in
     let dim = dimension s.args.d s.requires.0.dimension in (
       record { low = dim.low; high = dim.high; qudits = s.requires.0.qudits },
       s.requires.1.shifts-room,
       s.requires.1.frame-room,
-      valid-tableau _ _ _ r.run.ensures.2,
+      valid-tableau _ _ _ r.run-place.ensures.2,
       record {
         powers = v.carry.ensures.2;
         len = v.carry.ensures.3 ∙ ap length s.requires.2 ∙ (no-frame s.args.d s.args.n (omega arith)).len;
@@ -55,26 +55,26 @@ finish-requires c κs =
 
 returns : tie.Need-returns
 returns c =
-    let f = c.before.before.before.before.before.before in
-    let v = f.before.before.before.before.before.before.before.before.before in
-    let r = v.before.before.before.before.before.before.before in
-    let s = r.before.before.before.before.before.before.before.before.before.before.before in
+    let f = c in
+    let v = f in
+    let r = v in
+    let s = r in
     let a = s.args in
     let ops = operations_of a.d a.n a.ops.now in
     let after = v.carry.ensures in
-    let e = f.finish.ensures in (
+    let e = f.finish-verdict.ensures in (
       run_ends a.d a.n ops (errors_of a.errors.now) a.choices.now (state_of a.rows.now a.results.now)
           a.shifts.now
           a.out.now
           (omega (arith, (dimension a.d s.requires.0.dimension).low))
           s.requires.1.results-room
-          r.run.ensures.0 s.requires.2 after.0 after.1 e.0 e.1 e.2 e.3,
+          r.run-place.ensures.0 s.requires.2 after.0 after.1 e.0 e.1 e.2 e.3,
       refl,
-      r.run.ensures.1,
+      r.run-place.ensures.1,
     )
 
-pub run-in-spec : {M : Type 1} → statement M
-run-in-spec =
+pub run_in_spec : {M : Type 1} → statement M
+run_in_spec =
     tie.close
     (tie.spec
     run-requires

@@ -26,7 +26,7 @@ use Rattle.lane_gate.proofs.perform.Tie as tie
 
 -- once the entry is read: its operands and its operation
 abbrev start : tie.After-times_in-times → tie.Start
-start e = e
+start e = e.before.before.before.before.before.before.before.before.before
 
 abbrev code : tie.After-times_in-times → ℕ
 code e = get_or (start e).args.ops.now (4 * (start e).args.k) 0
@@ -62,7 +62,7 @@ did : (e : tie.After-times_in-times) {o : Operation} {w : List ℕ} → op e ≡
 did e {w = w} is x =
     let s = start e in
     let y : Did e (op e) w = rw is x in
-    (y, each-lanes (λ v p. gate-powers _ _ (omega (arith, s.pre.4.low)) (op e) v (good e) p) s.pre.3 y)
+    (y, each-lanes (λ v p. gate-powers _ _ (omega (arith, s.requires.4.low)) (op e) v (good e) p) s.requires.3 y)
 
 fourier : (c : tie.In-0) → op c.before ≡ Fourier (q c.before) (times c.before)
 unfolding coded

@@ -45,7 +45,7 @@ returns c =
     let l = o in
     let a = l.args in
     found (tested o.before.before) _ _ (rw (op-count a.d a.n a.ops.now) l.loop-k-test.true) l.loop-k.invariant.1
-    (not-true (tested o.before.before l.loop-k.k) (rw (c.is_gate.ensures, o.operation_of.ensures) at c.if-not-is_gate.true))
+    (rw (c.is_gate.ensures, o.operation_of.ensures) at c.if-not-is_gate.true)
 
 add-k : tie.Need-overflow_add-k invariant-loop decreases-loop
 add-k c = omega arith
@@ -59,7 +59,7 @@ loop-again c =
     let l = o in (
       omega arith,
       none_yet (tested o.before.before) _ l.loop-k.invariant.1
-          (not-false (tested o.before.before l.loop-k.k) (rw (c.is_gate.ensures, o.operation_of.ensures) at c.if-not-is_gate.false)),
+          (rw (c.is_gate.ensures, o.operation_of.ensures) at c.if-not-is_gate.false),
     )
 
 returns-2 : tie.Need-returns invariant-loop decreases-loop
