@@ -1,5 +1,5 @@
-// What the host software calls: layer, tableau test, look, writer, the two runs, going on with the direct one, the run of a tray, the
-// mirror and the sheet of weights, on numbers and byte slices.
+// What the host software calls: layer, tableau test, look, writer, the two runs, going on with the direct one, the run of a tray and the
+// mirror, on numbers and byte slices.
 #![tactic(auto)]
 ghost use Rattle.std.specs.Prelude.{◌≡◌};
 ghost use Rattle.saved_tableau.specs.Layer.{layer_number, layer_leaves};
@@ -11,7 +11,6 @@ ghost use Rattle.direct_book.specs.GoOn.{go_on_book};
 ghost use Rattle.frame_run.specs.FrameBook.{buffers_of, frame_left, frame_book};
 ghost use Rattle.shots.specs.Shots.{tray_book};
 ghost use Rattle.mirror_book.specs.MirrorBook.{mirror_book};
-ghost use Rattle.sheet.specs.SheetBook.{sheet_book};
 
 use answer::Answer;
 use direct_book::DirectAnswer;
@@ -115,13 +114,4 @@ pub extern "C" fn cagvost_mirror(book: &[u8], out: &mut [u8]) -> Answer
         ≡ mirror_book book.now out.old }
 {
     mirror_writer::mirror(book, out)
-}
-
-// Fills the sheet of weights of a book, or refuses by 1 to 8.
-#[unsafe(no_mangle)]
-pub extern "C" fn cagvost_sheet(book: &[u8], sheet: &mut [u8]) -> Answer
-    ensures { record { number = result.number; place = result.place; sheet = sheet.new }
-        ≡ sheet_book book.now sheet.old }
-{
-    sheet_run::sheet_run(book, sheet)
 }

@@ -13,9 +13,9 @@ use Rattle.blocks.proofs.Rows.{shifted-all, shot-rows}
 use Rattle.blocks.proofs.fill_rows.Statement.{statement}
 use Rattle.blocks.proofs.fill_rows.Tie as tie
 
-fill-requires : tie.Need-fill-requires
+fill-requires : tie.Need-fill-shifted-requires
 fill-requires c κs =
-    let o = c.before.before.before.before.before.before.before.before in
+    let o = c in
     let f = o.requires.2 in
     let b = o.requires.3 in
     let few : o.args.noisy ≤ o.args.count = omega (arith, b.noisy_count, noisy_most o.args.tray.now o.args.first o.args.count) in (
@@ -26,31 +26,35 @@ fill-requires c κs =
 
 expand-requires : tie.Need-expand-requires
 expand-requires c κs =
-    let o = c.before.before.before.before.before.before.before.before.before.before.before.before in
+    let o = c in
     let f = o.requires.2 in (
       record {
         width = omega (arith, f.width, f.exact);
         narrow = f.narrow;
         shots = o.requires.3.inside;
         table = o.requires.0.lies.table;
-        room = omega (arith, o.requires.4, c.before.before.before.fill.ensures.0.len);
+        room = omega (arith, o.requires.4, c.fill-shifted.ensures.0.len);
       },
       o.requires.3.noisy_count,
     )
 
-same_length : tie.Need-same-length
+same_length : tie.Need-shape_of-out
 same_length c = search rules
 
 returns : tie.Need-returns
 returns c =
-    let o = c.before.before.before.before.before.before.before.before.before.before.before.before.before.before.before in
+    let o = c in
     let f = o.requires.2 in
     let dim = dimension o.args.d f.circuit.dimension in
-    let e = c.before.before.before.before.before.before.fill.ensures in
+    let e = c.fill-shifted.ensures in
     let q = o.requires.3.noisy_count in (
-      shot-rows _ _ dim _ f.circuit.operations _ _ _ _ _ _ o.requires.1 f.exact f.circuit.below _ _ _ _ (rw q at e.0) c.before.before.expand.ensures,
+      shot-rows _ _ dim _ f.circuit.operations _ _ _ _ _ _ o.requires.1 f.exact f.circuit.below _ _ _ _ (rw q at e.0) c.expand.ensures,
       e.1 ∙ ap (shifted_shots _ _ _ _ _) q ∙ shifted-all _ _ dim _ f.circuit.operations _ _ _ _ _ _ o.requires.1,
     )
 
-pub fill-rows-spec : {M : Type 1} → statement M
-fill-rows-spec = tie.close (tie.spec fill-requires expand-requires same_length returns)
+pub fill_rows_spec : {M : Type 1} → statement M
+fill_rows_spec = tie.close (tie.spec
+    fill-requires
+    expand-requires
+    same_length
+    returns)

@@ -5,7 +5,13 @@ use Rattle.cagvost.proofs.cagvost_frame_run.Statement.{statement}
 use Rattle.cagvost.proofs.cagvost_frame_run.Tie as tie
 
 returns : tie.Need-returns
-returns c = c.before.before.before.before.before.before.before.before.frame-run.ensures
+returns c = c.frame_run.ensures
 
-pub cagvost-frame-run-spec : {M : Type 1} → statement M
-cagvost-frame-run-spec = tie.close (tie.spec (λ c κs. search rules) (λ c. search rules) (λ c. search rules) (λ c. search rules) (λ c. search rules) returns)
+pub cagvost_frame_run_spec : {M : Type 1} → statement M
+cagvost_frame_run_spec = tie.close (tie.spec
+    (λ c κs. search rules)
+    (λ c. search rules)
+    (λ c. search rules)
+    (λ c. search rules)
+    (λ c. search rules)
+    returns)

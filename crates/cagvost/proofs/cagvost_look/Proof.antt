@@ -7,5 +7,7 @@ use Rattle.cagvost.proofs.cagvost_look.Tie as tie
 returns : tie.Need-returns
 returns c = c.look.ensures
 
-pub cagvost-look-spec : {M : Type 1} → statement M
-cagvost-look-spec = tie.close (tie.spec (λ c κs. search rules) returns)
+pub cagvost_look_spec : {M : Type 1} → statement M
+cagvost_look_spec = tie.close (tie.spec
+    (λ c κs. search rules)
+    returns)

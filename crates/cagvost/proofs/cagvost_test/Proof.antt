@@ -7,5 +7,7 @@ use Rattle.cagvost.proofs.cagvost_test.Tie as tie
 returns : tie.Need-returns
 returns c = c.test.ensures
 
-pub cagvost-test-spec : {M : Type 1} → statement M
-cagvost-test-spec = tie.close (tie.spec (λ c κs. search rules) returns)
+pub cagvost_test_spec : {M : Type 1} → statement M
+cagvost_test_spec = tie.close (tie.spec
+    (λ c κs. search rules)
+    returns)

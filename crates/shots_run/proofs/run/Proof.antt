@@ -17,33 +17,33 @@ use Rattle.shots_run.proofs.run.Tie as tie
 few : (o : tie.Start) → o.args.measurements ≤ 4096
 few o = omega (arith, o.requires.0.short, few-measured o.requires.0, o.requires.1)
 
-array-borrow-prefix-copy : tie.Need-array-borrow-prefix-copy
-array-borrow-prefix-copy c = let o = c.before.before.before.before.before.before in omega (arith, sized-bytes o.args.n o.requires.0.qudits)
+array-borrow-prefix-copy : tie.Need-slice_bounds-copy-end
+array-borrow-prefix-copy c = let o = c in omega (arith, sized-bytes o.args.n o.requires.0.qudits)
 
-slice-aggregate-run-in : tie.Need-slice-aggregate-run-in
+slice-aggregate-run-in : tie.Need-slice_bounds-run_in-end
 slice-aggregate-run-in c =
-    let o = c.before.before.before.before.before.before.before in
+    let o = c in
     sym (length-take-le (2 * o.args.n * (2 * o.args.n + 1)) (blank 16512) (omega (arith, sized-bytes o.args.n o.requires.0.qudits, blank-length 16512)))
 
-array-borrow-prefix-results : tie.Need-array-borrow-prefix-results
-array-borrow-prefix-results c = let o = c.before.before.before.before.before.before.before in omega (arith, few o)
+array-borrow-prefix-results : tie.Need-slice_bounds-results-end
+array-borrow-prefix-results c = let o = c in omega (arith, few o.before.before.before.before.before.before.before)
 
-slice-aggregate-run-in-2 : tie.Need-slice-aggregate-run-in-2
+slice-aggregate-run-in-2 : tie.Need-slice_bounds-run_in-end-2
 slice-aggregate-run-in-2 c =
-    let o = c.before.before.before.before.before.before.before.before in
-    sym (length-take-le (2 * o.args.measurements) (blank 8192) (omega (arith, few o, blank-length 8192)))
+    let o = c in
+    sym (length-take-le (2 * o.args.measurements) (blank 8192) (omega (arith, few o.before.before.before.before.before.before.before.before, blank-length 8192)))
 
-run-in-requires : tie.Need-run-in-requires
+run-in-requires : tie.Need-run_in-requires
 run-in-requires c κs =
-    let o = c.before.before.before.before.before.before.before.before in (
+    let o = c in (
       o.requires.0,
       length-take-le (2 * o.args.n * (2 * o.args.n + 1)) (blank 16512) (omega (arith, sized-bytes o.args.n o.requires.0.qudits, blank-length 16512)),
-      rw (← o.requires.1) (take-replicate 0 (2 * o.args.measurements) 8192 (omega (arith, few o))),
+      rw (← o.requires.1) (take-replicate 0 (2 * o.args.measurements) 8192 (omega (arith, few o.before.before.before.before.before.before.before.before))),
       o.requires.2,
     )
 
 returns : tie.Need-returns
-returns c = let o = c.before.before.before.before.before.before.before.before.before.before.before.before.before in results-by o.requires.0 o.requires.2 c.before.before.before.before.run_in.ensures
+returns c = let o = c in results-by o.requires.0 o.requires.2 c.run_in.ensures
 
 pub run_spec : {M : Type 1} → statement M
 run_spec =
