@@ -1,5 +1,6 @@
 // What an entry point returns.
 #![tactic(auto)]
+
 ghost use Rattle.std.specs.Prelude.{◌≡◌};
 
 // What an entry point returns: 0 and a count (a run's measurements, the bytes that the writer or the mirror wrote, else 0), or a

@@ -1,7 +1,7 @@
 -- An accepted book's numbers are those of its lists of operations, errors and choices, and the lists are what 2, 3 and 5 to 7
 -- let through. Assumes nothing.
 use mathlib.Core.Path.{◌≡◌, refl, sym, ap, subst, ◌∙◌}
-use mathlib.Core.Bool.{Bool, cond, true, false, ◌||◌, false≢true}
+use mathlib.Core.Bool.{cond, true, ◌||◌, false≢true}
 use mathlib.Core.List.{List, [], ◌∷◌}
 use Prim.Native.Nat.{ℕ, zero, suc, ◌+◌, ◌*◌, ◌/◌, ◌<◌, ◌≤◌}
 use native.Mathlib.Nat.{le_refl}

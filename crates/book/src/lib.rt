@@ -1,5 +1,6 @@
 // The reader of shot books: a book's refusal by 1 to 7, or its numbers; and its bodies by kind.
 #![tactic(auto)]
+
 ghost use Rattle.std.specs.Prelude.{◌≡◌, ◌+◌, ◌*◌, ◌<◌, ◌≤◌, length};
 ghost use Rattle.book_body.specs.Body.{answer_of, measured_of, measured_by};
 ghost use Rattle.book.specs.Book.{header_fits, operations_entry, errors_entry, choices_entry, end_of, part_of, entry_fits, bad_contents, read_book, body_of};

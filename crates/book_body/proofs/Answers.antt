@@ -7,7 +7,6 @@ use lib.ListN.{length}
 use Rattle.search.specs.declared.Place.{Place}
 use Rattle.search.specs.declared.Place.TheVariants.{At, Nowhere}
 use Rattle.book_body.specs.Body.{bad_operation, bad_error, bad_choice, ReaderAnswer, refused, accepted, refuse_at, read_bodies}
-use Rattle.book_body.proofs.Cases
 
 module _ (P : ReaderAnswer → Type 0) where
   pub at_cases : (number : ℕ) (p : Place) {rest : ReaderAnswer} → ((k : ℕ) → P (refused number k)) → P rest → P (refuse_at number p rest)

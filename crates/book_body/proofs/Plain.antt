@@ -1,17 +1,14 @@
 -- A body of gates and measurements alone has nothing bad, and takes a choice for each measurement.
 -- Assumes nothing.
-use mathlib.Core.Path.{◌≡◌, refl, sym, ap, ◌∙◌}
-use mathlib.Core.Bool.{Bool, true, cond, ◌||◌, or-false}
+use mathlib.Core.Path.{◌≡◌, refl, ap, ◌∙◌}
+use mathlib.Core.Bool.{Bool, true, or-false}
 use mathlib.Core.List.{List}
 use Prim.Native.Nat.{ℕ, zero, suc, ◌+◌, ◌*◌, ◌/◌, ◌<◌, ◌≤◌}
 use native.Mathlib.Omega.{arith}
-use lib.Dec.{eqb}
 use lib.ListN.{length, get_or}
 use borrow.Author.Tests.{ne_eqb}
-use Rattle.operation.specs.declared.Operation.{Operation}
 use Rattle.operation.specs.Operation.{named}
 use Rattle.search.specs.declared.Place.TheVariants.{Nowhere}
-use Rattle.search.specs.Search.{all, first_not}
 use Rattle.search.proofs.Search.{all-at, none_fails}
 use Rattle.book_entries.specs.Entry.{good_if, coded}
 use Rattle.book_entries.specs.Fits.{plain_at}

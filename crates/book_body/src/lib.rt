@@ -1,5 +1,6 @@
 // The three bodies of a shot book, and the first bad entry of each.
 #![tactic(auto)]
+
 ghost use Rattle.std.specs.Prelude.{◌≡◌, ◌*◌, ◌/◌, ◌<◌, length};
 ghost use Rattle.operation.specs.Operation.{named};
 ghost use Rattle.book_body.specs.Body.{length_fits, all_plain, bad_operation, measurements, choice_takers, error_fits, bad_error, smaller, bad_choice, read_bodies, answer_of, measured_of, measured_by};

@@ -1,5 +1,6 @@
 // The entries of a shot book's bodies.
 #![tactic(auto)]
+
 ghost use Rattle.std.specs.Prelude.{◌≡◌, ◌+◌, ◌/◌, ◌<◌, length};
 ghost use Rattle.book_entries.specs.Entry.{word, times_in, decoded, coded, operation_at, error_at};
 ghost use Rattle.book_entries.specs.Fits.{second_fits, last_limit, last_fits, plain_fits, plain_at, fits};

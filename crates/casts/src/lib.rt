@@ -1,5 +1,6 @@
 // Numbers in a wider type. As functions, they give a proof the fact that the number is the same.
 #![tactic(auto)]
+
 ghost use Rattle.std.specs.Prelude.{◌≡◌, ◌<◌};
 
 pub fn byte_as_u16(x: u8) -> u16

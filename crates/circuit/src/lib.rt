@@ -1,5 +1,6 @@
 // Which operations of a circuit are measurements.
 #![tactic(auto)]
+
 ghost use Rattle.std.specs.Prelude.{◌≡◌, ◌≤◌};
 ghost use Rattle.circuit.specs.Circuit.{tally};
 

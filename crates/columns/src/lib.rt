@@ -1,5 +1,6 @@
 // The powers of a tableau by columns, and the two sums of a row's pairings with earlier rows.
 #![tactic(auto)]
+
 ghost use Rattle.std.specs.Prelude.{◌≡◌, ◌+◌, ◌*◌, ◌<◌, replicate};
 ghost use Rattle.columns.specs.Columns.{SmallTableau, Laid, RowSums};
 

@@ -1,5 +1,6 @@
 // Sums of products of a row's powers with the numbers of columns, many at a time.
 #![tactic(auto)]
+
 ghost use Rattle.std.specs.Prelude.{◌≡◌, ◌+◌, ◌*◌, ◌<◌, ◌≤◌, length, replicate};
 ghost use Rattle.dots.specs.Dots.{Small, Factors, SmallColumns, ColumnSums, SmallFour, four_at, products};
 

@@ -1,5 +1,6 @@
 // A Weyl error on a row, and on every row of a tableau.
 #![tactic(auto)]
+
 ghost use Rattle.std.specs.Prelude.{◌≡◌, true, ◌+◌, ◌*◌, ◌<◌, ◌≤◌, length};
 ghost use Rattle.row.specs.Row.{Row};
 ghost use Rattle.tableau.specs.Tableau.{Tableau, put, row};

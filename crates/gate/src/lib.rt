@@ -1,5 +1,6 @@
 // The six gates on a row, and on every row of a tableau.
 #![tactic(auto)]
+
 ghost use Rattle.std.specs.Prelude.{◌≡◌, true, cond, ◌+◌, ◌*◌, ◌%◌, ◌<◌, ◌≤◌, eqb, length};
 ghost use Rattle.modular.specs.Modular.{neg};
 ghost use Rattle.modular.specs.Dimension.{inverse};

@@ -1,5 +1,6 @@
 // Inverses modulo the listed dimensions.
 #![tactic(auto)]
+
 ghost use Rattle.std.specs.Prelude.{◌≡◌, ◌<◌, ◌≤◌};
 ghost use Rattle.modular.specs.Modular.{Reciprocal};
 ghost use Rattle.modular.specs.Dimension.{power_of, inverse};

@@ -1,6 +1,7 @@
 // Gates and errors on the frames of 256 shots side by side: for each gate what it does to one lane, and a loop over the lanes, which
 // vectorises.
 #![tactic(auto)]
+
 ghost use Rattle.std.specs.Prelude.{◌<◌};
 ghost use Rattle.modular.specs.Modular.{Reciprocal};
 ghost use Rattle.operation.specs.declared.Operation.TheVariants.{Fourier, PhaseGate, Sum, Cz, Swap, Multiplier};

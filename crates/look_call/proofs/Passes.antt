@@ -15,7 +15,6 @@ use Rattle.saved_tableau.specs.Test.{test_number}
 use Rattle.saved_tableau_laws.proofs.Exactly.{test-exactly, self-valid-exactly}
 use Rattle.measurement.specs.Look.{look}
 use Rattle.look_call.specs.LookBytes.{told, look_refused, look_bytes}
-use Rattle.look_call.proofs.Cases
 
 pub record PassesTest (t : List ℕ) : Type 0 where
   pub dimension : listed (dimension_in t) ≡ true

@@ -1,5 +1,6 @@
 // The free measurement of a qudit, on every row of a tableau.
 #![tactic(auto)]
+
 ghost use Rattle.std.specs.Prelude.{◌≡◌, ◌+◌, ◌*◌, ◌<◌, ◌≤◌, length, take};
 ghost use Rattle.modular.specs.Modular.{neg, WideReciprocal};
 ghost use Rattle.row.specs.Row.{phase_of, power};

@@ -1,5 +1,6 @@
 // The look at a qudit: what its measurement would be.
 #![tactic(auto)]
+
 ghost use Rattle.std.specs.Prelude.{◌≡◌, true, ◌+◌, ◌*◌, ◌<◌, ◌≤◌, length};
 ghost use Rattle.modular.specs.Dimension.{listed};
 ghost use Rattle.row.specs.Row.{Row};

@@ -14,7 +14,6 @@ use Rattle.tableau.specs.Tableau.{every}
 use Rattle.tableau.proofs.Parts.{Keeps}
 use Rattle.operation.specs.declared.WeylError.{WeylError}
 use Rattle.operation.specs.Error.{error_allowed, error_row, error_frame, minus_x}
-use Rattle.operation.proofs.Cases
 use Rattle.operation.proofs.Stores.{powers_store, row-phase}
 
 module _ (d n : ℕ) (e : WeylError) where

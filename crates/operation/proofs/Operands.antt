@@ -10,7 +10,6 @@ use borrow.Author.Tests.{ltb-true, leb-true, eqb-false, not-true}
 use Rattle.operation.specs.declared.WeylError.{WeylError}
 use Rattle.operation.specs.Operation.{distinct, from_one}
 use Rattle.operation.specs.Error.{error_allowed}
-use Rattle.operation.proofs.Cases
 
 pub distinct-facts : (n c t : ℕ) → distinct n c t ≡ true → (c < n) × (t < n) × (c ≢ t)
 distinct-facts n c t h =

@@ -1,5 +1,6 @@
 // Product and pairing of rows, and what they are made of.
 #![tactic(auto)]
+
 ghost use Rattle.std.specs.Prelude.{◌≡◌, ◌+◌, ◌*◌, ◌<◌, ◌≤◌, length};
 ghost use Rattle.modular.specs.Modular.{WideReciprocal};
 ghost use Rattle.row.specs.Row.{x_of, Powers, Row, row_of, dot, sum_at, product, pairing};

@@ -1,13 +1,13 @@
 -- A power of X applied after a shift: to take X^−r off shifted rows is to take X^−c off the rows and s out of the frame's X power,
 -- where r is c + s. A correction and a reset are so.
 -- Assumes nothing.
-use mathlib.Core.Path.{◌≡◌, refl, sym, ap, ◌∙◌}
+use mathlib.Core.Path.{◌≡◌, sym, ap, ◌∙◌}
 use mathlib.Core.Bool.{true}
 use mathlib.Core.List.{List}
 use Prim.Native.Nat.{ℕ, zero, suc, ◌+◌, ◌*◌, ◌%◌, ◌≤◌, ◌<◌}
 use native.Mathlib.Nat.{mod-lt}
 use native.Mathlib.Omega.{arith}
-use lib.ListN.{length, get_or, set, length-set}
+use lib.ListN.{length}
 use lib.Seq.{get_or-set_same, get_or-set_other, set-set}
 use Rattle.congruence.proofs.Congruence.{Cong, cong_refl, cong_eq, cong_sym, cong_trans, cong_add, cong_mul-left, cong_mod, mod_cong, small_cong}
 use Rattle.modular.specs.Modular.{neg}
@@ -21,7 +21,6 @@ use Rattle.operation.specs.Error.{error_allowed, error_row, error_rows, error_fr
 use Rattle.operation.proofs.Error.{error-keeps, minus-allowed}
 use Rattle.operation.proofs.Stores.{powers_store}
 use Rattle.conjugation.specs.Generators.{operator}
-use Rattle.conjugation.proofs.Errors.{error-pairs}
 use Rattle.runs.specs.Frame.{shift_row, shift_rows, reset_frame, correct_frame}
 use Rattle.runs.proofs.Frames.{shift-keeps, shift-row}
 use Rattle.run_laws.proofs.Shift.{reads-shift, shift-error, error-shifts}

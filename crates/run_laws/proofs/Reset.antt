@@ -6,14 +6,14 @@ use mathlib.Core.List.{List}
 use Prim.Native.Nat.{ℕ, zero, suc, ◌+◌, ◌*◌, ◌%◌, ◌<◌}
 use native.Mathlib.Nat.{mod-lt}
 use native.Mathlib.Omega.{arith}
-use lib.ListN.{length, get_or, set, length-replicate, get_or-replicate, length-set}
+use lib.ListN.{get_or, set, length-replicate, get_or-replicate}
 use lib.Seq.{get_or-set_same, get_or-set_other}
 use Rattle.congruence.proofs.Congruence.{cong_eq, cong_sym, cong_trans, cong_mod, small_cong}
 use Rattle.modular.specs.Modular.{neg}
 use Rattle.modular.specs.Dimension.{Dimension}
 use Rattle.row.specs.Row.{x_of, z_of}
 use Rattle.row.specs.Generators.{z_with}
-use Rattle.row_laws.proofs.Reading.{neg_is, neg_small}
+use Rattle.row_laws.proofs.Reading.{neg_small}
 use Rattle.operation.specs.Error.{error_rows, error_frame, minus_x}
 use Rattle.operation.proofs.Error.{minus-allowed}
 use Rattle.validity.specs.Validity.{Valid}
@@ -22,13 +22,13 @@ use Rattle.measurement.specs.declared.Look.{Look}
 use Rattle.measurement.specs.declared.Look.TheVariants.{Free, Certain}
 use Rattle.measurement.specs.Look.{look}
 use Rattle.measurement.specs.Collapse.{collapse}
-use Rattle.measurement_laws.specs.Stabilizers.{Generated, holds}
+use Rattle.measurement_laws.specs.Stabilizers.{holds}
 use Rattle.measurement_laws.proofs.Certain.{certain-exactly}
 use Rattle.measurement_laws.proofs.Free.{collapse-keeps-valid}
 use Rattle.measurement_laws.proofs.Generates.{collapse_generates}
 use Rattle.runs.specs.Direct.{reset_rows}
 use Rattle.runs.specs.Frame.{no_frame, shift_rows}
-use Rattle.runs.proofs.Frames.{no-powers, no-frame}
+use Rattle.runs.proofs.Frames.{no-frame}
 use Rattle.run_laws.specs.Carrying.{ResetClears}
 use Rattle.run_laws.proofs.Rows.{shifted_none, shifted-error}
 use Rattle.run_laws.proofs.Corrections.{cancels}

@@ -23,7 +23,6 @@ use Rattle.operation.proofs.Error.{error-frame-length, error-powers}
 use Rattle.circuit.specs.Circuit.{op_at, err_at, Kind, gate, measures, resets, corrects}
 use Rattle.runs.specs.Frame.{Frame, no_frame, errors_on_frame, reset_frame, correct_frame, shift_row}
 use Rattle.runs.specs.Raised.{Carry, carry_by}
-use Rattle.runs.proofs.Worked
 
 -- the first frame has no powers; bytes past a list's end count as 0
 zeros : (m s : ℕ) → get_or (replicate {A = ℕ} m 0) s 0 ≡ 0

@@ -20,7 +20,6 @@ use Rattle.measurement.specs.Look.{look}
 use Rattle.runs.specs.Run.{steps_from, with_result}
 use Rattle.runs.specs.Frame.{FrameState, frame_look, frame_kind, frame_errors, frame_step, frame_steps, frame_leaves, frame_run_from, frame_run}
 use Rattle.runs.specs.Direct.{State, direct_look, direct_kind, direct_errors, direct_step, direct_run}
-use Rattle.runs.proofs.Worked
 
 pub is_measure : (op : Operation) (q : ℕ) → kind op ≡ measures q → op ≡ Measure q
 is_measure (Fourier c k) q e = cc

@@ -1,5 +1,6 @@
 // The answer of a search, and a test as a number.
 #![tactic(auto)]
+
 ghost use Rattle.std.specs.Prelude.{◌≡◌, cond, ◌≤◌};
 
 // The first place that was looked for, or that there is none.

@@ -1,5 +1,6 @@
 // The rows of a tableau, each lent as the part that begins at its first byte.
 #![tactic(auto)]
+
 ghost use Rattle.std.specs.Prelude.{◌≡◌, ◌+◌, ◌*◌, ◌<◌, ◌≤◌, length};
 ghost use Rattle.modular.specs.Modular.{WideReciprocal};
 ghost use Rattle.row.specs.Row.{pairing};

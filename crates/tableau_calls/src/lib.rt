@@ -1,5 +1,6 @@
 // The calls about a tableau that names itself: the layer and the tableau test; and what a run asks of one.
 #![tactic(auto)]
+
 ghost use Rattle.std.specs.Prelude.{◌≡◌, true, ◌≤◌, length};
 ghost use Rattle.modular.specs.Dimension.{listed};
 ghost use Rattle.tableau.specs.Tableau.{sized};

@@ -1,5 +1,6 @@
 // Arithmetic modulo d on single bytes, by tables that are made once for a run.
 #![tactic(auto)]
+
 ghost use Rattle.std.specs.Prelude.{◌≡◌, ◌+◌, ◌*◌, ◌%◌, ◌<◌, ◌≤◌, length};
 ghost use Rattle.modular.specs.Modular.{neg, tri, Reciprocal};
 ghost use Rattle.row.specs.Row.{tab};

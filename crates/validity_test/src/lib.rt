@@ -1,5 +1,6 @@
 // The test whether a tableau's rows are valid.
 #![tactic(auto)]
+
 ghost use Rattle.std.specs.Prelude.{◌≡◌, cond, ◌+◌, ◌*◌, ◌<◌, ◌≤◌, eqb, ltb, length};
 ghost use Rattle.search.specs.Search.{all};
 ghost use Rattle.modular.specs.Modular.{WideReciprocal};

@@ -1,5 +1,6 @@
 // The rows of the zero tableau.
 #![tactic(auto)]
+
 ghost use Rattle.std.specs.Prelude.{◌≡◌, ◌+◌, ◌*◌, ◌<◌, ◌≤◌, length};
 ghost use Rattle.row.specs.Row.{row_of};
 ghost use Rattle.row.specs.Generators.{unit};

@@ -1,7 +1,6 @@
 -- `book_entries::decode` meets its contract.
 -- Assumes nothing.
 use mathlib.Core.Path.{sym, ◌∙◌}
-use borrow.Author.Tests.{not-true, not-false}
 use borrow.Author.Rules.{rules}
 use Rattle.book_entries.proofs.Fitting.{by_fits}
 use Rattle.book_entries.proofs.decode.Statement.{statement}

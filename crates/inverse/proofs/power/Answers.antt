@@ -4,7 +4,6 @@ use mathlib.Core.Path.{◌≡◌, sym, ap, ◌∙◌}
 use Prim.Native.Nat.{ℕ, ◌*◌, ◌/◌, ◌%◌, ◌<◌}
 use native.Mathlib.Nat.{mul-one, one-mul, mul_comm, mod-eq_of_lt}
 use native.Mathlib.Omega.{arith}
-use borrow.Author.Rules.{rules}
 use Rattle.modular.specs.Dimension.{power_of}
 use Rattle.modular.proofs.Residue.{rest-less, exchange}
 use Rattle.modular.proofs.Powers.{power-less, power_even, power-odd}
@@ -19,7 +18,7 @@ loop-j-init c =
     let k = start.args.k in
     let one : 1 < d = omega arith in
     elim c.if-k-eq1.branch [
-      then-k-eq1 w ↦ rw w.x-is (start.requires.0, start.requires.0, power-odd d u k w.if-k-eq1.true)
+      | then-k-eq1 w ↦ rw w.x-is (start.requires.0, start.requires.0, power-odd d u k w.if-k-eq1.true)
       | else-k-eq1 w ↦ rw w.x-is (one, start.requires.0, ap (λ (p : ℕ). p % d) (mul-one _) ∙ mod-eq_of_lt (power-less d _ _ one) ∙ power_even d u k w.if-k-eq1.false)
     ]
 
@@ -46,7 +45,7 @@ loop-j-preserved c =
     let s = c.mul-s.result in
     let before : power_of d s l.j * l.x % d ≡ power_of d start.args.u start.args.k = rw c.mul-s.ensures l.invariant.2 in
     elim c.if-j-eq1.branch [
-      then-j-eq1 w ↦ rw w.x-is (
+      | then-j-eq1 w ↦ rw w.x-is (
         rest-less _ (omega arith) w.mul-x.ensures,
         square (goal.at.loop-j-preserved c).After-mul-s,
         rw w.mul-x.ensures (taken d s l.x l.j w.if-j-eq1.true) ∙ before,

@@ -1,6 +1,6 @@
 -- `look_call::look_rows` meets its contract.
 -- Assumes nothing.
-use mathlib.Core.Path.{◌≡◌, sym, ap, ◌∙◌}
+use mathlib.Core.Path.{sym, ap, ◌∙◌}
 use borrow.Author.Rules.{rules}
 use Rattle.saved_tableau_laws.proofs.Rows.{rows-part}
 use Rattle.look_call.specs.LookBytes.{told}

@@ -3,7 +3,6 @@
 use mathlib.Core.Path.{◌≡◌, sym, ◌∙◌}
 use mathlib.Core.Bool.{true}
 use borrow.Author.Rules.{rules}
-use borrow.Author.Tests.{not-true, not-false}
 use Rattle.tableau.proofs.Sized.{sized-most}
 use Rattle.saved_tableau.specs.Saved.{names, valid_for}
 use Rattle.saved_tableau_laws.proofs.Exactly.{rows_decide, is-named}

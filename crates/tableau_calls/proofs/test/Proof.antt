@@ -5,7 +5,7 @@ use mathlib.Core.List.{List}
 use Prim.Native.Nat.{ℕ}
 use lib.ListN.{length}
 use borrow.Author.Rules.{rules}
-use borrow.Author.Tests.{lt-leb, le-leb, not-true, not-false}
+use borrow.Author.Tests.{lt-leb, le-leb}
 use Rattle.saved_tableau.specs.Saved.{dimension_in, qudits_in, self_valid}
 use Rattle.saved_tableau.specs.Shape.{shape_number}
 use Rattle.saved_tableau.specs.Test.{test_number}

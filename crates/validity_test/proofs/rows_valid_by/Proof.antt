@@ -6,7 +6,6 @@ use Prim.Native.Nat.{◌-◌, ◌*◌, ◌≤◌}
 use native.Mathlib.Nat.{le_antisymm}
 use native.Mathlib.Omega.{arith}
 use borrow.Author.Rules.{rules}
-use borrow.Author.Tests.{not-true, not-false}
 use Rattle.search.specs.Search.{all}
 use Rattle.search.proofs.Search.{all_more, all_fails}
 use Rattle.validity.specs.Validity.{row_valid}
