@@ -1,5 +1,6 @@
 // A block of up to 256 shots: their frames carried in lanes, their results from the clean ones.
 #![tactic(auto)]
+
 ghost use Rattle.std.specs.Prelude.{◌≡◌, ◌+◌, ◌*◌, ◌/◌, ◌<◌, ◌≤◌, length, get_or};
 ghost use Rattle.circuit.specs.Circuit.{measured};
 ghost use Rattle.book.specs.Decoded.{operations_of};

@@ -1,5 +1,6 @@
 // The shots of a tray, block by block: up to 256 shots that have errors, and those without among them.
 #![tactic(auto)]
+
 ghost use Rattle.std.specs.Prelude.{◌≡◌, ◌+◌, ◌*◌, ◌<◌, ◌≤◌, length};
 ghost use Rattle.tray.specs.Tray.{shots_in, start_of};
 ghost use Rattle.lane_shots.specs.LaneShots.{blank, CleanShots};

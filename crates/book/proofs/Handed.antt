@@ -83,7 +83,7 @@ handed s {reading} {b} (e, counts) f =
     sym (ap measured_of f) ∙ counts ∙ ap (λ (r : Reading). measured_by (part_of s operations_entry) (answer_of r)) f in
     handed-reads s reads
     (ap (measured (operations_of b.d b.n (body_of s 1))) m.operation_count
-    ∙ m.measurement_count_lem
+    ∙ m.measurement-count
     ∙ ap (λ (ops : List ℕ). measurements ops b.operations) (by_kind s 1 reads)
     ∙ sym own)
 

@@ -118,9 +118,9 @@ accepted-means s d n operations errors choices e =
       qudits-sized = p.qudits;
       operation_count = rw b1 (op-count _ _ _);
       error-count = rw b2 (error-count _);
-      choice_count_lem = ap length b3;
+      choice-count = ap length b3;
       choices-taken = rw b1 (op-chosen sound _ (le_refl _) ∙ sym (one_each sound));
       taker_count = rw b1 (sym (one_each sound));
-      measurement_count_lem = rw b1 (op-measured sound _ (le_refl _));
+      measurement-count = rw b1 (op-measured sound _ (le_refl _));
       lists = rw (b1, b2, b3) (lists sound);
     })

@@ -55,10 +55,10 @@ pub record Means (s : List ℕ) (d n operations errors choices : ℕ) : Type 0 w
   pub qudits-sized : sized n ≡ true
   pub operation_count : length (operations_of d n (body_of s 1)) ≡ operations
   pub error-count : length (errors_of (body_of s 2)) ≡ errors
-  pub choice_count_lem : length (body_of s 3) ≡ choices
+  pub choice-count : length (body_of s 3) ≡ choices
   pub choices-taken : chosen (operations_of d n (body_of s 1)) operations ≡ choices
   pub taker_count : choice_takers (body_of s 1) operations ≡ choices
-  pub measurement_count_lem : measured (operations_of d n (body_of s 1)) operations ≡ measurements (body_of s 1) operations
+  pub measurement-count : measured (operations_of d n (body_of s 1)) operations ≡ measurements (body_of s 1) operations
   pub lists : Accepted d n (operations_of d n (body_of s 1)) (errors_of (body_of s 2)) (body_of s 3)
 
 abbrev pub AcceptedMeans : Type 0

@@ -1,5 +1,6 @@
 // Reads the example book and books that differ from it, and writes of each the first line of its listing, or its refusal.
 #![tactic(auto)]
+
 ghost use Rattle.std.specs.Prelude.{◌<◌};
 
 use book_body::Reading;

@@ -1,6 +1,6 @@
 -- A tray's shots are the frame runs of their books, and are counted once each; the book's own errors are not used.
 -- Assumes nothing.
-use mathlib.Core.Path.{◌≡◌, refl, sym, ap, subst, ◌∙◌}
+use mathlib.Core.Path.{◌≡◌, refl, sym, ap, ◌∙◌}
 use mathlib.Core.Bool.{Bool, true, false, cond}
 use mathlib.Core.List.{List, ◌∷◌}
 use Prim.Native.Nat.{ℕ, zero, suc, ◌+◌, ◌*◌, ◌/◌, ◌<◌, ◌≤◌}
@@ -16,7 +16,6 @@ use Rattle.search.proofs.Search.{both}
 use Rattle.tableau.specs.Tableau.{part}
 use Rattle.tableau.proofs.Parts.{part_length, part_at, each-length, each-rest}
 use Rattle.saved_tableau.specs.Saved.{rows_in, tableau_bytes}
-use Rattle.circuit.specs.Circuit.{measured}
 use Rattle.book_body.specs.Body.{length_fits, accepted}
 use Rattle.book.specs.Book.{read_book, body_of}
 use Rattle.book.specs.Decoded.{Means, ops_in, choices_in, errors_of, measurements_in}

@@ -1,6 +1,7 @@
 // What the host software calls: layer, tableau test, look, writer, the two runs, going on with the direct one, the run of a tray and the
 // mirror, on numbers and byte slices.
 #![tactic(auto)]
+
 ghost use Rattle.std.specs.Prelude.{◌≡◌};
 ghost use Rattle.saved_tableau.specs.Layer.{layer_number, layer_leaves};
 ghost use Rattle.saved_tableau.specs.Test.{test_number};

@@ -5,7 +5,7 @@ use mathlib.Core.List.{List, [], ◌∷◌}
 use Prim.Native.Nat.{ℕ}
 use Rattle.modular.specs.Dimension.{inverse, power_of}
 use Rattle.row.specs.Row.{tab, row_of, dot, product, power}
-use Rattle.operation.specs.declared.Operation.TheVariants.{Fourier, PhaseGate, Cz, Multiplier, Measure, Reset, Correct}
+use Rattle.operation.specs.declared.Operation.TheVariants.{Fourier, PhaseGate, Cz, Multiplier, Measure}
 use Rattle.operation.specs.Gate.{gate_powers, gate_phase, gate_row}
 use Rattle.operation.specs.Error.{error_row}
 use Rattle.row.specs.Generators.{z_with}

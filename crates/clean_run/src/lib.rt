@@ -1,5 +1,6 @@
 // The clean run: every operation on the rows, and no errors.
 #![tactic(auto)]
+
 ghost use Rattle.std.specs.Prelude.{◌≡◌, true, [], ◌*◌, ◌≤◌, length};
 ghost use Rattle.modular.specs.Dimension.{listed};
 ghost use Rattle.validity.specs.Validity.{Valid};

@@ -1,5 +1,6 @@
 // A correction in the frames of up to 256 shots: a lane's shift is the reported result of its shot less the clean one.
 #![tactic(auto)]
+
 ghost use Rattle.std.specs.Prelude.{◌≡◌, ℕ, ◌+◌, ◌*◌, ◌<◌, ◌≤◌, length};
 ghost use Rattle.lanes.specs.Lanes.{Lanes};
 ghost use Rattle.tile.specs.Tile.{ShotsRoom};

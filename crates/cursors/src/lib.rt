@@ -1,5 +1,6 @@
 // Where a run stands that goes on: the number alone tells which errors and choices are spent.
 #![tactic(auto)]
+
 ghost use Rattle.std.specs.Prelude.{◌≡◌, true, ℕ, ◌/◌, ◌<◌, ◌≤◌, length};
 ghost use Rattle.operation.specs.Operation.{allowed};
 ghost use Rattle.circuit.specs.Circuit.{op_at, chosen, ErrorsInOrder};

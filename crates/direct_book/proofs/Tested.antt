@@ -18,7 +18,6 @@ use Rattle.book.specs.Decoded.{measurements_in}
 use Rattle.book.proofs.Answers.{read_cases}
 use Rattle.direct_book.specs.DirectBook.{DirectLeft, direct_refused, direct_buffers_fit, direct_tested, direct_by}
 use Rattle.direct_book.specs.Passes.{Passes}
-use Rattle.direct_book.proofs.Cases
 
 -- the numbers of these refusals
 abbrev pub tests : List ℕ

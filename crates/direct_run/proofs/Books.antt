@@ -1,13 +1,13 @@
 -- A book that the reader has accepted, by the tests of its buffers; and what its run leaves, where none of 1 to 9 refuses.
 -- Assumes nothing.
 use mathlib.Core.Path.{◌≡◌, sym, ap, ◌∙◌}
-use mathlib.Core.Bool.{Bool, true, false, not, and-eq-true_iff}
+use mathlib.Core.Bool.{Bool, true, false, and-eq-true_iff}
 use mathlib.Core.List.{List}
 use Prim.Native.Nat.{ℕ, ◌+◌, ◌*◌, ◌<◌, ◌≤◌}
 use native.Mathlib.Omega.{arith}
 use lib.Dec.{leb}
 use lib.ListN.{length}
-use borrow.Author.Tests.{leb-true, le-leb, lt-leb, not-true, not-false}
+use borrow.Author.Tests.{leb-true, le-leb, lt-leb}
 use Rattle.saved_tableau.specs.Saved.{rows_in, tableau_bytes, valid_for}
 use Rattle.book_body.specs.declared.Numbers.{Numbers}
 use Rattle.book_body.specs.declared.Reading.{Reading}

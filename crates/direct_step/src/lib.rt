@@ -1,5 +1,6 @@
 // A step of the direct run: the errors of its place, then its operation.
 #![tactic(auto)]
+
 ghost use Rattle.std.specs.Prelude.{◌≡◌, ◌≢◌, true, ◌+◌, ◌*◌, ◌/◌, ◌<◌, ◌≤◌, length, get_or};
 ghost use Rattle.validity.specs.Validity.{Valid};
 ghost use Rattle.operation.specs.Operation.{allowed, named};

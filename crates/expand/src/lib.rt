@@ -1,6 +1,7 @@
 // The rows of shots that have errors are filled one after the other; here each is moved to its place, and the shots without errors
 // get the clean run's bytes.
 #![tactic(auto)]
+
 ghost use Rattle.std.specs.Prelude.{◌≡◌, ◌∷◌, ◌+◌, ◌*◌, ◌≤◌, length};
 ghost use Rattle.tableau.specs.Tableau.{part, put};
 ghost use Rattle.expand.specs.Expand.{noisy_among, shot_row_of, RowsRoom, Expanded};

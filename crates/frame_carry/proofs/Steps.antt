@@ -18,7 +18,7 @@ use Rattle.operation.specs.declared.WeylError.{WeylError}
 use Rattle.operation.specs.Operation.{allowed, named}
 use Rattle.operation.specs.Error.{error_frame}
 use Rattle.operation.proofs.Error.{error-powers}
-use Rattle.circuit.specs.Circuit.{op_at, err_at, Kind, gate, measures, resets, corrects, kind, tally_kind, tally, measured, measurement_count}
+use Rattle.circuit.specs.Circuit.{op_at, err_at, Kind, gate, measures, resets, corrects, kind, tally_kind, measured, measurement_count}
 use Rattle.runs.specs.declared.Position.{Position}
 use Rattle.runs.specs.Reached.{AtStep}
 use Rattle.runs.specs.Frame.{errors_on_frame, correct_frame}

@@ -1,6 +1,7 @@
 // A frame carried over a circuit: errors, gates, resets and corrections change it, and each result gains its X power on the measured
 // qudit.
 #![tactic(auto)]
+
 ghost use Rattle.std.specs.Prelude.{◌≡◌, true, ◌+◌, ◌*◌, ◌/◌, ◌<◌, ◌≤◌, length};
 ghost use Rattle.modular.specs.Modular.{Reciprocal};
 ghost use Rattle.modular.specs.Dimension.{listed};

@@ -1,5 +1,6 @@
 // The end of a frame run: each row's shift is written and added to its phase, and the shifts give the verdict.
 #![tactic(auto)]
+
 ghost use Rattle.std.specs.Prelude.{◌≡◌, cond, ◌++◌, ◌+◌, ◌*◌, ◌≤◌, length, drop};
 ghost use Rattle.modular.specs.Modular.{WideReciprocal};
 ghost use Rattle.row.specs.Row.{Powers, Row, tab, pairing};

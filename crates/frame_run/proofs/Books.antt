@@ -1,12 +1,12 @@
 -- The frame run of an accepted book, by the tests of its buffers.
 -- Assumes nothing.
 use mathlib.Core.Path.{◌≡◌, sym, ◌∙◌}
-use mathlib.Core.Bool.{Bool, true, false, not}
+use mathlib.Core.Bool.{Bool, true, false}
 use mathlib.Core.List.{List}
 use Prim.Native.Nat.{ℕ, ◌*◌, ◌≤◌}
 use lib.Dec.{leb}
 use lib.ListN.{length}
-use borrow.Author.Tests.{leb-true, not-true, not-false}
+use borrow.Author.Tests.{leb-true}
 use Rattle.search.proofs.Search.{both}
 use Rattle.validity.specs.Validity.{Valid}
 use Rattle.saved_tableau.specs.Saved.{rows_in, tableau_bytes, valid_for}

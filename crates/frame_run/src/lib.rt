@@ -1,5 +1,6 @@
 // The frame run.
 #![tactic(auto)]
+
 ghost use Rattle.std.specs.Prelude.{◌≡◌, ◌≤◌, length};
 ghost use Rattle.validity.specs.Validity.{Valid};
 ghost use Rattle.saved_tableau.specs.Saved.{rows_in, tableau_bytes};

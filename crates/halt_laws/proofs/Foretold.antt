@@ -15,7 +15,6 @@ use Rattle.saved_tableau.specs.Saved.{rows_in}
 use Rattle.book.specs.Decoded.{ops_in, errors_in, choices_in}
 use Rattle.book.proofs.Meaning.{accepted-means}
 use Rattle.measurement.specs.Look.{look}
-use Rattle.look_call.specs.LookBytes.{told}
 use Rattle.runs.specs.Run.{steps_from}
 use Rattle.runs.specs.Direct.{state_of, errors_on_rows, direct_operation, direct_errors, direct_step}
 use Rattle.runs.proofs.Taken.{rows_taken, taken_skip}

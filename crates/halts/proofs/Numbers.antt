@@ -9,7 +9,6 @@ use native.Mathlib.Omega.{arith}
 use lib.Dec.{ltb}
 use borrow.Author.Tests.{lt-ltb, le-ltb, ltb-true, ltb-false}
 use Rattle.halts.specs.Halt.{finished, next_of, Action, go_on, look_at, reaches}
-use Rattle.halts.proofs.Worked
 
 module _ (operations from count : ℕ) where
   pub next-halted : from + count ≤ operations → next_of operations from count ≡ from + count

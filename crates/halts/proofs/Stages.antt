@@ -12,7 +12,6 @@ use Rattle.operation.specs.declared.WeylError.{WeylError}
 use Rattle.runs.specs.Run.{steps_from}
 use Rattle.runs.specs.Direct.{State, direct_errors, direct_step, direct_run}
 use Rattle.halts.specs.Halt.{direct_stage}
-use Rattle.halts.proofs.Worked
 
 module _ (d n : ℕ) (ops : List Operation) (errors : List WeylError) (choices : List ℕ) where
   pub stage-step : (k : ℕ) (st : State) → k < length ops → direct_stage d n ops errors choices k st ≡ direct_step d n ops errors choices k st

@@ -1,5 +1,6 @@
 // A block of up to 256 shots, one in each lane: their bytes and their verdicts, from the clean run.
 #![tactic(auto)]
+
 ghost use Rattle.std.specs.Prelude.{◌≡◌, length};
 ghost use Rattle.tile.specs.Tile.{TileRoom, ShotsRoom};
 ghost use Rattle.calendar.specs.LaneErrors.{LaneBodies};

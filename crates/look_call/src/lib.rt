@@ -1,5 +1,6 @@
 // The look at a qudit of a lent tableau.
 #![tactic(auto)]
+
 ghost use Rattle.std.specs.Prelude.{◌≡◌, true, ◌<◌, ◌≤◌, length};
 ghost use Rattle.modular.specs.Dimension.{listed};
 ghost use Rattle.validity.specs.Validity.{Valid};

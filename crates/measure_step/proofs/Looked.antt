@@ -7,7 +7,7 @@ use Rattle.operation.specs.Error.{error_rows, minus_x}
 use Rattle.measurement.specs.declared.Look.{Look}
 use Rattle.measurement.specs.declared.Look.TheVariants.{Free, Certain}
 use Rattle.runs.specs.Run.{with_result}
-use Rattle.runs.specs.Direct.{State, direct_look, reset_rows}
+use Rattle.runs.specs.Direct.{direct_look, reset_rows}
 use Rattle.measure_step.specs.Measured.{rows_measured, outcome_of, mark_of}
 
 module _ (d n : ℕ) (choices : List ℕ) (c q : ℕ) where

@@ -1,5 +1,6 @@
 // One measurement, and one reset, on the rows.
 #![tactic(auto)]
+
 ghost use Rattle.std.specs.Prelude.{◌≡◌, ◌+◌, ◌*◌, ◌<◌, length};
 ghost use Rattle.validity.specs.Validity.{Valid};
 ghost use Rattle.measurement.specs.Look.{look};

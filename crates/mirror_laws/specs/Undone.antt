@@ -1,4 +1,4 @@
--- What undoes a gate, over every d and n. (To `gateRow` a measurement is nothing, and so is what undoes it.) The statements are proved
+-- What undoes a gate, over every d and n. (To `gate_row` a measurement is nothing, and so is what undoes it.) The statements are proved
 -- in proofs/.
 use Rattle.std.specs.Prelude.{◌≡◌, true, List, ℕ}
 use Rattle.modular.specs.Dimension.{Dimension}

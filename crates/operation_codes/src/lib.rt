@@ -1,5 +1,6 @@
 // The operation of an entry that the reader has accepted.
 #![tactic(auto)]
+
 ghost use Rattle.std.specs.Prelude.{◌≡◌, true, ◌/◌, ◌<◌, length};
 ghost use Rattle.operation.specs.Operation.{allowed};
 ghost use Rattle.circuit.specs.Circuit.{op_at};

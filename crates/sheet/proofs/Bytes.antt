@@ -1,18 +1,17 @@
 -- The bytes of a row of the sheet, and of the sheet.
 -- Assumes nothing.
-use mathlib.Core.Path.{◌≡◌, refl, sym, ap, ◌∙◌}
+use mathlib.Core.Path.{◌≡◌, sym, ap, ◌∙◌}
 use mathlib.Core.List.{List}
 use Prim.Native.Nat.{ℕ, ◌+◌, ◌*◌, ◌/◌, ◌%◌, ◌<◌, ◌≤◌}
 use native.Mathlib.Nat.{div-add-mod, mod-lt}
 use native.Mathlib.Decide.{ℕ_discrete}
 use native.Mathlib.Omega.{arith}
 use lib.ListN.{length, get_or, drop}
-use lib.Seq.{ext_get_or, get_or-drop}
+use lib.Seq.{ext_get_or}
 use borrow.Author.Tests.{eq-eqb, ne_eqb}
-use Rattle.row.specs.Row.{tab}
 use Rattle.row.proofs.Fill.{tab-length, tab-get}
-use Rattle.tableau.specs.Tableau.{part, each_row}
-use Rattle.tableau.proofs.Parts.{row_in, part_at, Keeps, each-length, each_at, each-rest}
+use Rattle.tableau.specs.Tableau.{part}
+use Rattle.tableau.proofs.Parts.{part_at, Keeps, each-length, each_at, each-rest}
 use Rattle.operation.specs.declared.Operation.{Operation}
 use Rattle.operation.specs.declared.WeylError.{WeylError}
 use Rattle.circuit.specs.Circuit.{err_at, measurement_count}

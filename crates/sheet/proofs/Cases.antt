@@ -19,7 +19,7 @@ use Rattle.book_entries.specs.Entry.{decoded, error_at}
 use Rattle.book_body.specs.Body.{bad_operation, measurements, choice_takers, good_error, bad_error, bad_choice, read_bodies}
 use Rattle.book.specs.Book.{header_fits, entry_fits, bad_contents, read_book, body_of}
 use Rattle.book.specs.Decoded.{operations_of, errors_of}
-use Rattle.sheet.specs.SheetBook.{SheetLeft, sheet_by_answer, sheet_book}
+use Rattle.sheet.specs.SheetBook.{sheet_by_answer, sheet_book}
 use Rattle.sheet.specs.Weights.{weights_of, sheet_row, sheet_in, weighed}
 
 -- Fourier 0, SUM 0 1, then both qudits are measured.

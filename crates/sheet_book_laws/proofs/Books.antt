@@ -2,11 +2,11 @@
 -- Assumes nothing.
 use mathlib.Core.Path.{◌≡◌, refl, sym, ap, ◌∙◌}
 use mathlib.Core.List.{List, []}
-use Prim.Native.Nat.{ℕ, zero, suc, ◌+◌, ◌*◌, ◌%◌, ◌<◌, ◌≤◌}
+use Prim.Native.Nat.{ℕ, zero, suc, ◌*◌, ◌<◌, ◌≤◌}
 use native.Mathlib.Nat.{le_refl}
 use native.Mathlib.Omega.{arith}
 use lib.Dec.{leb}
-use lib.ListN.{length, get_or, drop}
+use lib.ListN.{length}
 use borrow.Author.Tests.{le-leb}
 use Rattle.modular.specs.Dimension.{Dimension}
 use Rattle.modular.proofs.Listed.{dimension}
@@ -16,13 +16,12 @@ use Rattle.operation.specs.declared.Operation.{Operation}
 use Rattle.operation.specs.declared.WeylError.{WeylError}
 use Rattle.circuit.specs.Circuit.{err_at, measured, measurement_count}
 use Rattle.book_body.specs.Body.{accepted}
-use Rattle.book.specs.Book.{read_book, body_of}
+use Rattle.book.specs.Book.{read_book}
 use Rattle.book.specs.Decoded.{Means, operations_of, ops_in, errors_in, choices_in, measurements_in}
 use Rattle.book.proofs.Meaning.{accepted-means}
 use Rattle.written_book.specs.Errorless.{errorless, ErrorsRemoved}
 use Rattle.written_book.proofs.Errorless.{errorless-accepted}
-use Rattle.runs.specs.Direct.{State, state_of, direct_run}
-use Rattle.runs.specs.Frame.{frame_run}
+use Rattle.runs.specs.Direct.{state_of, direct_run}
 use Rattle.runs.proofs.Results.{measured-more}
 use Rattle.run_laws.proofs.Books.{named_in}
 use Rattle.run_laws.proofs.Results.{related_none, Equal}
@@ -32,12 +31,12 @@ use Rattle.frame_run.specs.FrameBook.{Buffers, frame_book}
 use Rattle.book_laws.specs.Lent.{Lent}
 use Rattle.book_laws.proofs.Left.{window, direct-left, frame-left}
 use Rattle.book_laws.proofs.Clean.{no-errors}
-use Rattle.sheet.specs.Weights.{sheet_bytes, sheet_in, weighed, weight_x, weight_z}
+use Rattle.sheet.specs.Weights.{sheet_bytes, sheet_in, weighed}
 use Rattle.sheet.specs.SheetBook.{SheetLeft, sheet_by_answer, sheet_book}
 use Rattle.sheet.proofs.Bytes.{sheet_x, sheet_z, sheet-rest, sheet-length}
-use Rattle.sheet_laws.specs.Lists.{ResultsWeighed, SamePlaces}
+use Rattle.sheet_laws.specs.Lists.{SamePlaces}
 use Rattle.sheet_laws.proofs.Lists.{frame-weighed, none_before, sheet_of_places}
-use Rattle.sheet_book_laws.specs.Books.{SameCircuit, SheetOfCircuit, p_weight, s_weight, sum_by_sheet, RunsWeighed, SheetWeighs, SheetFilled, SheetFills}
+use Rattle.sheet_book_laws.specs.Books.{SameCircuit, SheetOfCircuit, sum_by_sheet, RunsWeighed, SheetWeighs, SheetFills}
 
 -- what is left of an accepted book
 left_of : (s : List ℕ) {d n o e c : ℕ} → read_book s ≡ accepted d n o e c → (sheet : List ℕ) → sheet_bytes (ops_in s d n) (errors_in s) ≤ length sheet

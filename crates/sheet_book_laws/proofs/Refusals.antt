@@ -3,12 +3,9 @@
 use mathlib.Core.Path.{◌≡◌, refl}
 use mathlib.Core.Logic.{◌≢◌}
 use mathlib.Core.Bool.{true}
-use mathlib.Core.List.{List}
-use Prim.Native.Nat.{ℕ}
 use lib.Dec.{leb}
 use lib.ListN.{length}
 use Rattle.modular.specs.Dimension.{among}
-use Rattle.search.specs.Search.{unless}
 use Rattle.search.proofs.Search.{unless_cases}
 use Rattle.book.proofs.Answers.{read_cases}
 use Rattle.book.specs.Decoded.{ops_in, errors_in}

@@ -1,39 +1,33 @@
 -- The sheet of weights: shifts are powers times weights, none before an error's place, and no power in the sheet.
 -- Assumes nothing.
 use mathlib.Core.Path.{◌≡◌, refl, sym, ap, ◌∙◌}
-use mathlib.Core.Bool.{true}
 use mathlib.Core.List.{List, [], ◌∷◌}
-use Prim.Native.Nat.{ℕ, zero, suc, ◌+◌, ◌-◌, ◌*◌, ◌%◌, ◌≤◌, ◌<◌}
+use Prim.Native.Nat.{ℕ, zero, suc, ◌+◌, ◌*◌, ◌%◌, ◌≤◌, ◌<◌}
 use native.Mathlib.Nat.{mod-lt, le_refl}
 use native.Mathlib.Omega.{arith}
-use lib.ListN.{length, get_or, length-replicate, get_or-append}
+use lib.ListN.{length, get_or, length-replicate}
 use lib.Seq.{ext_get_or}
 use borrow.Author.Tests.{eq-eqb, ne_eqb}
-use Rattle.congruence.proofs.Congruence.{Cong, cong_refl, cong_eq, cong_sym, cong_trans, cong_add, cong_mod, mod_cong, small_cong}
+use Rattle.congruence.proofs.Congruence.{cong_refl, cong_eq, cong_sym, cong_trans, cong_add, cong_mod, mod_cong, small_cong}
 use Rattle.congruence.proofs.Sum.{sum}
 use Rattle.modular.specs.Dimension.{Dimension}
-use Rattle.row.specs.Row.{x_of}
-use Rattle.row.specs.Fill.{filled}
 use Rattle.row.proofs.Fill.{filled-get}
 use Rattle.tableau.specs.Tableau.{each_row}
-use Rattle.tableau.proofs.Parts.{Keeps}
 use Rattle.operation.specs.declared.Operation.{Operation}
 use Rattle.operation.specs.declared.WeylError.{WeylError}
-use Rattle.operation.specs.Operation.{allowed}
 use Rattle.circuit.specs.Circuit.{op_at, err_at, Kind, gate, measures, resets, corrects, kind, measured, measurement_count, Accepted}
-use Rattle.runs.specs.Direct.{State, direct_run}
-use Rattle.runs.specs.Frame.{Frame, no_frame, errors_on_frame, frame_leaves, frame_run_from, frame_run}
+use Rattle.runs.specs.Direct.{direct_run}
+use Rattle.runs.specs.Frame.{no_frame, errors_on_frame, frame_leaves, frame_run}
 use Rattle.runs.specs.Raised.{Carry, carrying, carry_by, frame_before, carried, carried_frame, result_shifts}
 use Rattle.runs.specs.Carry.{shifted_byte_at, with_shifts}
 use Rattle.runs.proofs.Frames.{no-powers}
-use Rattle.runs.proofs.Results.{measured-more}
 use Rattle.runs.proofs.Shifts.{shift_known}
 use Rattle.run_laws.proofs.Books.{without_errors}
 use Rattle.run_laws.proofs.Clean.{frame-is-clean}
-use Rattle.sheet.specs.Weights.{with_powers, unit_x, unit_z, shift_of, weight_x, weight_z, weights_of, row_bytes, sheet_row, sheet_in, weighed}
-use Rattle.sheet.proofs.Bytes.{even_half, odd-half, sheet-keeps}
-use Rattle.sheet_laws.specs.Lists.{ShiftsWeighed, ResultsWeighed, FrameWeighed, NoneBefore, SamePlaces, SheetOfPlaces}
-use Rattle.sheet_laws.proofs.Linear.{blend, Good, Blends, blends_all}
+use Rattle.sheet.specs.Weights.{with_powers, shift_of, weight_x, weight_z, weights_of, row_bytes, sheet_row, weighed}
+use Rattle.sheet.proofs.Bytes.{even_half, odd-half}
+use Rattle.sheet_laws.specs.Lists.{ShiftsWeighed, FrameWeighed, NoneBefore, SheetOfPlaces}
+use Rattle.sheet_laws.proofs.Linear.{blend, blends_all}
 
 weighed-sum : (d n : ℕ) (ops : List Operation) (errors : List WeylError) (j i : ℕ)
     → weighed d n ops errors j i

@@ -1,6 +1,6 @@
 -- Bytes of a row in turn from two lanes; a loop that changes one row after the other.
 -- Assumes nothing.
-use mathlib.Core.Path.{◌≡◌, refl, sym, ap, ◌∙◌}
+use mathlib.Core.Path.{◌≡◌, refl, ap, ◌∙◌}
 use mathlib.Core.Logic.{◌≢◌}
 use mathlib.Core.List.{List}
 use Prim.Native.Nat.{ℕ, ◌+◌, ◌*◌, ◌/◌, ◌%◌, ◌<◌, ◌≤◌}
@@ -11,7 +11,7 @@ use Rattle.tableau.specs.Tableau.{part, put}
 use Rattle.tableau.proofs.Parts.{row_in, put-length, part-put, part-before, part-after}
 use Rattle.tile.specs.Tile.{shot_at, Transposed}
 use Rattle.tile.proofs.Tile.{Run}
-use Rattle.sheet_tile.specs.Weave.{in_tile, by_lanes, Woven, Cleared, RowChanged, RowsChanged, RowsRoom}
+use Rattle.sheet_tile.specs.Weave.{in_tile, by_lanes, Woven, RowChanged, RowsChanged, RowsRoom}
 
 -- room is kept with the length
 pub rows-kept : {w used : ℕ} {out out' : List ℕ} → RowsRoom w used out → length out' ≡ length out → RowsRoom w used out'

@@ -1,5 +1,6 @@
 // Weights leave the lanes in tiles of 16 measurements and go to the rows of the sheet. The loops over bytes vectorise.
 #![tactic(auto)]
+
 ghost use Rattle.std.specs.Prelude.{◌≡◌, ◌+◌, ◌*◌, ◌<◌, ◌≤◌, length};
 ghost use Rattle.sheet_tile.specs.Weave.{in_tile, by_lanes, Woven, Cleared, RowChanged, RowsChanged, RowsRoom, TurnRoom};
 

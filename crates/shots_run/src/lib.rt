@@ -1,5 +1,6 @@
 // A tray of shots: one clean run on a copy of the tableau, then the shots in blocks.
 #![tactic(auto)]
+
 ghost use Rattle.std.specs.Prelude.{◌≡◌, ◌+◌, ◌*◌, ◌≤◌, length};
 ghost use Rattle.circuit.specs.Circuit.{measurement_count};
 ghost use Rattle.book.specs.Decoded.{operations_of};

@@ -1,5 +1,6 @@
 // Reads one shot book from standard input and prints its frame run from the zero tableau.
 #![tactic(auto)]
+
 ghost use Rattle.std.specs.Prelude.{◌+◌, ◌*◌, ◌<◌, ◌≤◌, length};
 
 use book_body::{Numbers, Reading};

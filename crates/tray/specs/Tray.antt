@@ -31,7 +31,7 @@ good_length s i = length_fits (length_at s i) 5 2048
 unfoldable pub table_fits : List ℕ → Bool
 table_fits s = leb (shots_in s) 4096 && (all (good_length s) (shots_in s) && eqb (start_of s (shots_in s)) (length s))
 
--- No tray has two readings, since `shotsIn` and `shotBody` are functions of its bytes; and no two trays have the same one: of the
+-- No tray has two readings, since `shots_in` and `shot_body` are functions of its bytes; and no two trays have the same one: of the
 -- trays of bytes whose tables are right, one alone has this number of shots and these bodies.
 abbrev pub OnlyTray : Type 0
 OnlyTray = (s u : List ℕ) → Bytes s → Bytes u → table_fits s ≡ true → table_fits u ≡ true → shots_in s ≡ shots_in u

@@ -1,5 +1,6 @@
 // The reader of trays: refusal 11, and the tray's 6.
 #![tactic(auto)]
+
 ghost use Rattle.std.specs.Prelude.{◌≡◌, true};
 ghost use Rattle.tray.specs.Tray.{table_fits, bad_shot};
 

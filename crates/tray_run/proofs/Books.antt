@@ -1,13 +1,13 @@
 -- The tray run of an accepted book, by the tests of tray, buffers and tableau.
 -- Assumes nothing.
 use mathlib.Core.Path.{◌≡◌, sym, ap, ◌∙◌}
-use mathlib.Core.Bool.{Bool, true, false, not}
+use mathlib.Core.Bool.{Bool, true, false}
 use mathlib.Core.List.{List}
 use Prim.Native.Nat.{ℕ, ◌+◌, ◌-◌, ◌*◌, ◌≤◌}
 use native.Mathlib.Omega.{arith}
 use lib.Dec.{leb}
 use lib.ListN.{length}
-use borrow.Author.Tests.{leb-true, not-true, not-false}
+use borrow.Author.Tests.{leb-true}
 use Rattle.search.specs.declared.Place.TheVariants.{At, Nowhere}
 use Rattle.search.proofs.Search.{both}
 use Rattle.saved_tableau.specs.Saved.{rows_in, tableau_bytes, valid_for}

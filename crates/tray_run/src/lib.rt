@@ -1,5 +1,6 @@
 // The run of a tray.
 #![tactic(auto)]
+
 ghost use Rattle.std.specs.Prelude.{◌≡◌, ◌+◌, ◌*◌, ◌≤◌, length};
 ghost use Rattle.saved_tableau.specs.Saved.{rows_in, tableau_bytes};
 ghost use Rattle.circuit.specs.Circuit.{measurement_count};

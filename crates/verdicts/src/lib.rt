@@ -1,5 +1,6 @@
 // The verdict of each lane: its frame is copied out, and paired with the stabilizers until one is shifted.
 #![tactic(auto)]
+
 ghost use Rattle.std.specs.Prelude.{◌≡◌, ◌*◌, ◌<◌, ◌≤◌, length};
 ghost use Rattle.modular.specs.Modular.{WideReciprocal};
 ghost use Rattle.row.specs.Row.{Powers};

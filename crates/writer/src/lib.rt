@@ -1,5 +1,6 @@
 // The writer: the only book that the reader accepts for d, n and three bodies.
 #![tactic(auto)]
+
 ghost use Rattle.std.specs.Prelude.{◌≡◌, ◌+◌, ◌<◌, ◌≤◌, length};
 ghost use Rattle.tableau.specs.Tableau.{put};
 ghost use Rattle.book_body.specs.Body.{answer_of};

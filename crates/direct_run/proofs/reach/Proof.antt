@@ -1,6 +1,6 @@
 -- `direct_run::reach` meets its contract.
 -- Assumes nothing.
-use mathlib.Core.Path.{◌≡◌, sym}
+use mathlib.Core.Path.{sym}
 use borrow.Author.Rules.{rules}
 use Rattle.saved_tableau_laws.proofs.Exactly.{valid-rows}
 use Rattle.book.specs.Book.{body_of}

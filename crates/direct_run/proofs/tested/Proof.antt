@@ -1,6 +1,6 @@
 -- `direct_run::tested` meets its contract.
 -- Assumes nothing.
-use mathlib.Core.Path.{◌≡◌, refl, sym, ap, ◌∙◌}
+use mathlib.Core.Path.{refl, sym, ap, ◌∙◌}
 use borrow.Author.Rules.{rules}
 use Rattle.book_body.specs.Body.{answer_of}
 use Rattle.book.proofs.Handed.{handed}

@@ -1,6 +1,5 @@
 -- `frame_carry::carry` meets its contract.
 -- Assumes nothing.
-use mathlib.Core.Path.{refl}
 use borrow.Author.Rules.{rules}
 use Rattle.frame_carry.proofs.carry.Statement.{statement}
 use Rattle.frame_carry.proofs.carry.Tie as tie

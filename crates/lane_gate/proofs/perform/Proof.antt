@@ -11,7 +11,7 @@ use Rattle.modular.proofs.Listed.{dimension}
 use Rattle.operation.specs.declared.Operation.{Operation}
 use Rattle.operation.specs.declared.Operation.TheVariants.{Fourier, PhaseGate, Sum, Cz, Swap, Multiplier}
 use Rattle.operation.specs.Operation.{allowed}
-use Rattle.operation.specs.Gate.{gate_powers, gate_frame}
+use Rattle.operation.specs.Gate.{gate_frame}
 use Rattle.operation.proofs.Gate.{gate-powers}
 use Rattle.operation.proofs.Operands.{distinct-facts, single-facts, pair-facts}
 use Rattle.circuit.specs.Circuit.{op_at}

@@ -6,7 +6,6 @@ use Prim.Native.Nat.{ℕ, ◌-◌, ◌≤◌}
 use native.Mathlib.Nat.{le_antisymm}
 use native.Mathlib.Omega.{arith}
 use borrow.Author.Rules.{rules}
-use borrow.Author.Tests.{not-true, not-false}
 use Rattle.search.specs.declared.Place.TheVariants.{Nowhere}
 use Rattle.search.specs.Search.{first_not}
 use Rattle.search.proofs.Search.{none_yet, found}

@@ -11,7 +11,7 @@ use Rattle.tray.proofs.Table.{table_unfit, table-inside}
 use Rattle.search.specs.Search.{all}
 use native.Mathlib.Numerals.{add-one}
 use native.Mathlib.Nat.{le_antisymm}
-use borrow.Author.Tests.{le-leb, not-true, not-false}
+use borrow.Author.Tests.{le-leb}
 use lib.Dec.{eqb}
 use lib.ListN.{length}
 use Rattle.search.proofs.Search.{all_more}
