@@ -1,9 +1,10 @@
 # Sourced at the top of the repository: from here on, until descriptor 9 is closed, no other command that sources this builds
 # in this clone. If one does already, it is waited for.
 #
-# rt keeps what it builds in target/ and does not lock it; and rt ci removes target/, so the file that is locked stands beside
-# it. The lock is the kernel's: this shell holds it together with all that it starts, and it ends with them, however they end.
-# So no lock is left behind, and what an interrupted rt still has running is waited for too.
+# rt has locks of its own, but only while it runs. So a program that is built would be gone before it is run, and a library before
+# it is copied, where an rt ci begins meanwhile, which removes what is built. The lock is the kernel's: this shell holds it
+# together with the rt that it starts, and it ends with them, however they end. So no lock is left behind, and an rt that is
+# still running after an interrupt is waited for too.
 if ! { true >> .lock; } 2> /dev/null; then
     echo "${0##*/}: the file $PWD/.lock cannot be written, so nothing is built" >&2
     exit 2

@@ -6,5 +6,5 @@ if ! command -v rt > /dev/null; then
     exit 2
 fi
 . commands/lock.sh
-# The copy matters: rt ci removes target/, and cargo would not build again for that.
-sh commands/prove.sh && cp target/staticlib/libcagvost.a "$1"
+# The copy matters: rt ci removes what is built, and cargo would not build again for that.
+sh commands/prove.sh cagvost && cp crates/cagvost/out/libcagvost.a "$1"

@@ -1,5 +1,6 @@
 #!/bin/sh
-# Tests of ./simulate, ./cagvost and the host's build script, for when the program is built. The last line is 'N passed, M failed'.
+# Tests of ./simulate, ./cagvost and the host's build script, for when program and library are built (commands/prove.sh). The last
+# line is 'N passed, M failed'.
 CDPATH= cd -- "$(dirname -- "$0")/.." || exit 1
 top=$PWD
 . commands/room.sh
@@ -72,7 +73,7 @@ should "a directory is no book" did_not_run_in_a_line 'examples is a directory'
 
 simulate examples/paper.book
 should "an accepted book is listed, with status 0" ended 0 examples/paper.txt
-should "nothing is proved that is up to date" does_not_say ' proved ('
+should "nothing is proved that is up to date" does_not_say ' proved$'
 simulate - < examples/paper.book
 should "- is standard input" ended 0 examples/paper.txt
 simulate examples/refused_5.book
@@ -88,7 +89,7 @@ should "nothing on standard input is a refused book" ended 1 "$room/expected"
 cp examples/paper.book "$room/books/a b.book"
 cp examples/refused_5.book "$room/books/-x.book"
 { cat examples/largest.book; head -c 69258 /dev/zero; } > "$room/books/long.book"
-head -c 30743 "$room/books/long.book" | target/bin/simulate > "$room/expected"
+head -c 30743 "$room/books/long.book" | crates/simulate/out/simulate > "$room/expected"
 ln -s "$top" "$room/books/clone"
 cd "$room/books" || exit 1
 simulate=clone/simulate
@@ -103,18 +104,29 @@ unset CDPATH
 simulate=./simulate
 cd "$top" || exit 1
 
-# In place of rt, one that proves a crate, waits until that is said and fails at the next crate; then none.
+# In place of rt, one that finds a crate up to date, proves the next, waits until that is said and fails at a third; then none.
 cat > "$room/fails/rt" << 'END'
 #!/bin/sh
-echo 'rt: modular proved (unchanged since it was last proved)'
-echo 'rt: search proved (3 s)'
+exec >&2 # as rt run does
+echo 'rt: chose --jobs 2 for modular'
+echo 'fn modular::reduce: proved'
+echo 'crate modular: modules loaded=61 checked=0'
+echo 'logic=proved functions=1 sum=0'
+echo 'rt: chose --jobs 2 for search'
+echo 'fn search::one_if: proved'
+echo 'crate search: modules loaded=0 checked=53'
+echo 'logic=proved functions=1 sum=0'
 seconds=0
 until grep -q '^search proved' "${0%/*}/../said" || [ "$seconds" = 20 ]; do
     sleep 1
     seconds=$((seconds + 1))
 done
 [ "$seconds" != 20 ] || echo 'rt: nothing was said in time'
-echo 'rt: inverse NOT PROVED (exit 1, 2 s)'
+echo 'rt: chose --jobs 2 for inverse'
+echo './proofs/inverse/Answers.antt:3:5: error: `returns`: expected another type'
+echo 'fn inverse::inverse: not proved'
+echo 'crate inverse: modules loaded=20 checked=9'
+echo 'logic=not-proved'
 exit 1
 END
 chmod +x "$room/fails/rt"
@@ -122,41 +134,43 @@ path=$PATH
 PATH=$room/fails:$PATH
 simulate examples/paper.book
 PATH=$path
-should "a failed proof ends with status 2 and what rt said" did_not_run '^rt: inverse NOT PROVED'
-should "each crate that is proved is named" says 'search proved (3 s)'
+should "a failed proof ends with status 2 and what rt said" did_not_run '^fn inverse::inverse: not proved$'
+should "each crate that is proved is named" says 'search proved'
 should "it is named as it is proved" does_not_say 'nothing was said in time'
+should "one that is up to date or fails is not named" does_not_say '^\(modular\|inverse\) proved'
 for tool in sh cat chmod dirname find head mktemp rm sleep; do ln -s "$(command -v "$tool")" "$room/bare/$tool"; done
 PATH=$room/bare
 simulate examples/paper.book
 PATH=$path
 should "a missing rt is named" did_not_run_in_a_line 'no rt here'
 
-# A folder with these commands alone, where rt builds a program if there is no stamp; then programs that fail or break off.
-mkdir -p "$room/clone/target/bin" "$room/clone/target/stamp" || exit 1
+# A folder with these commands alone, where rt builds a program if there is none; then programs that fail or break off.
+program=$room/clone/crates/simulate/out/simulate
+mkdir -p "${program%/*}" || exit 1
 cp -R simulate commands "$room/clone"
 cat > "$room/works/rt" << 'END'
 #!/bin/sh
-[ ! -e target/stamp/simulate ] || exit 0
-printf '#!/bin/sh\necho verdict clean\n' > target/bin/simulate
-chmod +x target/bin/simulate
-: > target/stamp/simulate
+[ ! -e out/simulate ] || exit 0
+printf '#!/bin/sh\necho verdict clean\n' > out/simulate
+chmod +x out/simulate
+: > out/simulate.stamp
 END
 chmod +x "$room/works/rt"
 PATH=$room/works:$PATH
 simulate=$room/clone/simulate
-: > "$room/clone/target/stamp/simulate"
+: > "$program.stamp"
 echo 'verdict clean' > "$room/expected"
 simulate examples/paper.book
 should "a program that is missing is built, whatever the stamp says" ended 0 "$room/expected"
-for program in 'exit 3' 'echo verdict clean; exit 3'; do
-    printf '#!/bin/sh\n%s\n' "$program" > "$room/clone/target/bin/simulate"
+for words in 'exit 3' 'echo verdict clean; exit 3'; do
+    printf '#!/bin/sh\n%s\n' "$words" > "$program"
     simulate examples/paper.book
-    should "a program that fails is said to ($program)" did_not_run_in_a_line 'ended with status 3'
+    should "a program that fails is said to ($words)" did_not_run_in_a_line 'ended with status 3'
 done
-for program in true 'echo outcome 1' 'printf "verdict cl"'; do
-    printf '#!/bin/sh\n%s\n' "$program" > "$room/clone/target/bin/simulate"
+for words in true 'echo outcome 1' 'printf "verdict cl"'; do
+    printf '#!/bin/sh\n%s\n' "$words" > "$program"
     simulate examples/paper.book
-    should "a listing that breaks off is not shown ($program)" did_not_run_in_a_line 'the listing breaks off'
+    should "a listing that breaks off is not shown ($words)" did_not_run_in_a_line 'the listing breaks off'
 done
 rm -f "$room/clone/.lock"
 mkdir "$room/clone/.lock"
@@ -235,6 +249,7 @@ fi
 # A folder with the commands alone: no toolchain, then one that proves a crate and fails at the next, then no cargo.
 cp cagvost "$room/clone"
 rm -rf "$room/clone/.lock"
+for part in out src specs proofs; do mkdir -p "$room/clone/crates/cagvost/$part"; done
 cagvost=$room/clone/cagvost
 printf '#!/bin/sh\nexit 3\n' > "$room/bare/cargo"
 chmod +x "$room/bare/cargo"
@@ -244,17 +259,21 @@ PATH=$path
 should "a missing rt is named by the command" did_not_run_in_a_line 'no rt here'
 PATH=$room/fails:$room/bare:$PATH
 cagvost help
-should "a failed proof ends the command with status 2 and what rt said" did_not_run '^rt: inverse NOT PROVED'
-should "the command names each crate that is proved" says 'search proved (3 s)'
-mkdir -p "$room/clone/target/staticlib" "$room/clone/crates"
+should "a failed proof ends the command with status 2 and what rt said" did_not_run '^fn inverse::inverse: not proved$'
+should "the command names each crate that is proved" says 'search proved'
 : > "$room/clone/crates.txt"
-touch -d '2 days ago' "$room/clone/crates" "$room/clone/crates.txt"
-touch -d '1 day ago' "$room/clone/target/staticlib/libcagvost.a"
+touch -d '2 days ago' "$room/clone/crates.txt" "$room"/clone/crates/cagvost/*
+touch -d '1 day ago' "$room/clone/crates/cagvost/out/libcagvost.a"
+: > "$room/clone/crates/cagvost/out/cagvost.stamp"
 cagvost help
 should "a command that is not built does not run" did_not_run_in_a_line 'cargo did not build'
-: > "$room/clone/crates/changed"
-cagvost help
-should "what has changed is proved anew" did_not_run '^rt: inverse NOT PROVED'
+for part in src specs proofs; do
+    : > "$room/clone/crates/cagvost/$part/changed"
+    cagvost help
+    should "what has changed is proved anew ($part)" did_not_run '^fn inverse::inverse: not proved$'
+    rm "$room/clone/crates/cagvost/$part/changed"
+    touch -d '2 days ago' "$room/clone/crates/cagvost/$part"
+done
 rm "$room/bare/cargo"
 PATH=$room/bare
 cagvost help

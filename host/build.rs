@@ -46,8 +46,8 @@ fn is_archive(path: &Path) -> bool {
 /// standard error.
 fn prove_and_build() -> PathBuf {
     let root = folder("CARGO_MANIFEST_DIR").join("..");
-    for source in ["crates", "crates.txt"] {
-        println!("cargo::rerun-if-changed={}", root.join(source).display());
+    for source in sources(&root) {
+        println!("cargo::rerun-if-changed={}", source.display());
     }
     let out = folder("OUT_DIR");
     let status = Command::new("sh")
@@ -62,6 +62,17 @@ fn prove_and_build() -> PathBuf {
         )),
         Err(e) => fail(&format!("cannot start `sh`: {e}")),
     }
+}
+
+/// What the archive is made of, without what `rt` makes beside it, which changes with each build.
+fn sources(root: &Path) -> Vec<PathBuf> {
+    let mut sources = vec![root.join("crates.txt")];
+    let crates = fs::read_dir(root.join("crates")).unwrap_or_else(|e| fail(&format!("crates/: {e}")));
+    for entry in crates.flatten() {
+        let parts = ["src", "specs", "proofs"].map(|part| entry.path().join(part));
+        sources.extend(parts.into_iter().filter(|part| part.exists()));
+    }
+    sources
 }
 
 fn folder(variable: &str) -> PathBuf {
