@@ -67,7 +67,8 @@ fn prove_and_build() -> PathBuf {
 /// What the archive is made of, without what `rt` makes beside it, which changes with each build.
 fn sources(root: &Path) -> Vec<PathBuf> {
     let mut sources = vec![root.join("crates.txt")];
-    let crates = fs::read_dir(root.join("crates")).unwrap_or_else(|e| fail(&format!("crates/: {e}")));
+    let crates =
+        fs::read_dir(root.join("crates")).unwrap_or_else(|e| fail(&format!("crates/: {e}")));
     for entry in crates.flatten() {
         let parts = ["src", "specs", "proofs"].map(|part| entry.path().join(part));
         sources.extend(parts.into_iter().filter(|part| part.exists()));

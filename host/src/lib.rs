@@ -297,8 +297,8 @@
 //!
 //! # Building
 //!
-//! The build script has `rt staticlib cagvost` prove the crates and build the library, once no other
-//! build of the same clone is under way. To link one that was built before, let the environment
+//! The build script has `rt` prove the crates and build the library (`rt lib` in crates/cagvost), once
+//! no other build of the same clone is under way. To link one that was built before, let the environment
 //! variable `CAGVOST_LIB` name the folder that has `libcagvost.a`; that it has none is an error.
 
 #![deny(missing_docs)]

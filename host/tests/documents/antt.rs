@@ -82,9 +82,11 @@ impl Source {
 
     /// `use A.B.{x, y}`
     fn import(&mut self, head: &[String]) {
-        let module = head[1].trim_end_matches('.').to_string();
-        for name in head[2..].iter().filter(|word| is_name(word)) {
-            let (module, name) = (module.clone(), name.clone());
+        let open = head.iter().position(|word| word == "{");
+        let (module, names) = head.split_at(open.unwrap_or(head.len()));
+        let module = module[1..].concat();
+        for name in names.iter().filter(|word| is_name(word)) {
+            let (module, name) = (module.trim_end_matches('.').to_string(), name.clone());
             self.imports.push(Import { module, name });
         }
     }
@@ -228,7 +230,8 @@ fn unmodified(words: Vec<String>) -> (bool, Vec<String>) {
     )
 }
 
-/// Words and punctuation; a full stop at a word's end is a word of its own.
+/// Words and punctuation. A full stop at a word's end is a word of its own, and so is each projection:
+/// `x.now` is `x` and `.now`.
 pub fn words(text: &str) -> Vec<String> {
     let mut spaced = String::new();
     for c in text.chars() {
@@ -237,11 +240,18 @@ pub fn words(text: &str) -> Vec<String> {
             false => spaced.push(c),
         }
     }
-    let cut = |word: &str| match word.strip_suffix('.') {
-        Some(start) if !start.is_empty() => vec![start.to_string(), ".".to_string()],
-        _ => vec![word.to_string()],
-    };
     spaced.split_whitespace().flat_map(cut).collect()
+}
+
+fn cut(word: &str) -> Vec<String> {
+    let mut words: Vec<String> = Vec::new();
+    for c in word.chars() {
+        match words.last_mut() {
+            Some(word) if c != '.' || word.ends_with('.') => word.push(c),
+            _ => words.push(c.to_string()),
+        }
+    }
+    words
 }
 
 /// Lines that belong together: one of the least indentation, every deeper one after it, and those

@@ -78,7 +78,7 @@ pub fn returned() -> Vec<(String, String)> {
 /// The functions that the library exports. No other function of it is `extern`.
 fn exported() -> BTreeMap<String, Signature> {
     let words = rust::words(&rust::read(EXPORTS));
-    let mark = rust::words("#[no_mangle] pub extern \"C\" fn");
+    let mark = rust::words("#[unsafe(no_mangle)] pub extern \"C\" fn");
     let starts = (0..words.len()).filter(|&i| words[i..].starts_with(&mark));
     let functions: Vec<_> = starts
         .map(|i| signature(&words[i + mark.len()..]))

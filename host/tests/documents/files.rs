@@ -37,14 +37,14 @@ pub fn stems(folder: &str, ending: &str) -> Vec<String> {
     names(folder).into_iter().filter_map(stem).collect()
 }
 
-/// All files under a folder that have one of these endings, but for what cargo makes.
+/// All files under a folder that have one of these endings, but for what cargo and rt make.
 pub fn under(folder: &str, endings: &[&str]) -> Vec<String> {
     let mut found = Vec::new();
     for name in names(folder) {
         let path = format!("{folder}/{name}");
         if endings.iter().any(|ending| name.ends_with(ending)) {
             found.push(path);
-        } else if name != "target" {
+        } else if name != "target" && name != "out" {
             found.extend(under(&path, endings));
         }
     }
@@ -55,7 +55,10 @@ pub fn under(folder: &str, endings: &[&str]) -> Vec<String> {
 pub fn crates() -> Vec<String> {
     let list = text("crates.txt");
     let lines = list.lines().filter(|line| !line.starts_with('#'));
-    let name = |line: &str| line.split_once(':').map(|(name, _)| name.to_string());
+    let name = |line: &str| {
+        let (head, _) = line.split_once(':')?;
+        head.split(' ').next().map(str::to_string)
+    };
     lines.filter_map(name).collect()
 }
 
@@ -64,7 +67,10 @@ pub fn listed_crates() -> Vec<String> {
     let list = text("crates.txt");
     let lines = list.lines().filter(|line| !line.starts_with('#'));
     let names = lines.flat_map(|line| line.split([':', ' ']));
-    names.map(str::to_string).collect()
+    names
+        .filter(|name| *name != "staticlib")
+        .map(str::to_string)
+        .collect()
 }
 
 /// The text without its comments, each of which begins with `mark` after a space or a line's begin.

@@ -28,14 +28,13 @@ const README: &str = "README.md";
 const OPERATIONS: &str = "docs/OPERATIONS.md";
 
 /// Words of README that are commands, the environment's, the language's or the host's.
-const OTHERS: [&str; 7] = [
+const OTHERS: [&str; 6] = [
     "rt",
     "cargo",
     "flock",
     "CAGVOST_LIB",
     "requires",
     "cagvost::Refusal",
-    "target/must-fail/CRATE/EDIT/.log",
 ];
 
 /// What the head of the map uses to explain itself, and two words of the language.

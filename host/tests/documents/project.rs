@@ -28,6 +28,7 @@ impl Name {
 }
 
 pub struct Project {
+    crates: Vec<String>,
     specs: BTreeMap<String, Source>,
     codes: BTreeMap<String, Code>,
 }
@@ -84,7 +85,11 @@ impl Project {
         let codes = codes
             .map(|path| (path.clone(), Code::read(&path)))
             .collect();
-        Project { specs, codes }
+        Project {
+            crates,
+            specs,
+            codes,
+        }
     }
 
     /// Everything that the roots rest on, and the roots.
@@ -185,6 +190,13 @@ impl Project {
         Some(self.imported(import))
     }
 
+    /// `Rattle.crate.inside`: the crate, if it is one of ours, and what comes behind it.
+    fn ours<'a>(&self, module: &'a str) -> Option<(&'a str, &'a str)> {
+        let (krate, inside) = module.strip_prefix("Rattle.")?.split_once('.')?;
+        let is_ours = self.crates.iter().any(|ours| ours == krate);
+        is_ours.then_some((krate, inside))
+    }
+
     /// Where an imported name is defined.
     pub fn imported_name(&self, import: &Import) -> Name {
         self.imported(import).name
@@ -192,15 +204,13 @@ impl Project {
 
     /// In a pattern, whatever the library has is taken for a constructor.
     fn imported(&self, Import { module, name }: &Import) -> Meaning {
-        let Some(ours) = module.strip_prefix("Rattle·") else {
+        let Some((krate, inside)) = self.ours(module) else {
             let (module, name) = (module.clone(), name.clone());
             return Meaning {
                 name: Name::Library { module, name },
                 in_pattern: true,
             };
         };
-        let (krate, inside) = ours.split_once('.').expect("a module of a crate");
-        let krate = krate.trim_end_matches("·specs");
         let file = inside
             .strip_prefix("specs.")
             .unwrap_or_else(|| panic!("{module} is no spec file"));
@@ -257,9 +267,9 @@ fn owner<'a>(source: &'a Source, word: &str) -> Option<&'a Declaration> {
         .or_else(|| source.declarations.iter().find(constructs))
 }
 
-/// Whether a word is a name or, as `+` of `_+_`, a part of it.
+/// Whether a word is a name or, as `+` of `◌+◌`, a part of it.
 fn stands_for(name: &str, word: &str) -> bool {
-    name == word || (name.contains('_') && name.split('_').any(|part| part == word))
+    name == word || (name.contains('◌') && name.split('◌').any(|part| part == word))
 }
 
 /// The names among words, without the labels of `record { label = ..; .. }`.

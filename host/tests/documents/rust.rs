@@ -111,12 +111,17 @@ pub fn braced(words: &[String]) -> Vec<String> {
     words.iter().take_while(inside).skip(1).cloned().collect()
 }
 
-/// `use a::B;`: B, and the crate a that has it.
+/// `use a::B;` and `use a::{B, C};`: each name, and the crate a that has it.
 pub fn uses(text: &str) -> Vec<(String, String)> {
     let used = |line: &str| {
         let path = line.strip_prefix("use ")?.strip_suffix(';')?;
-        let (from, name) = path.split_once("::")?;
-        Some((name.to_string(), from.to_string()))
+        let (from, names) = path.split_once("::")?;
+        let names = names.trim_matches(['{', '}']).split(", ");
+        Some(
+            names
+                .map(|name| (name.to_string(), from.to_string()))
+                .collect::<Vec<_>>(),
+        )
     };
-    text.lines().filter_map(used).collect()
+    text.lines().filter_map(used).flatten().collect()
 }
