@@ -543,9 +543,10 @@ sheet-weighs = weighed-books.sheet-weighs
 pub sheet_fills : SheetFills
 sheet_fills = weighed-books.sheet_fills
 
--- The sheet's refusals are 1 to 7 and 8, and leave the buffer unchanged.
+-- The sheet's refusals are 1 to 7 and 8.
 pub sheet-listed : SheetListed
 sheet-listed = sheet-refusals.sheet-listed
 
+-- A refused sheet leaves the buffer as it was.
 pub sheet_unchanged : SheetUnchanged
 sheet_unchanged = sheet-refusals.sheet_unchanged
