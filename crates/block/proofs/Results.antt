@@ -4,12 +4,12 @@ use mathlib.Core.Path.{◌≡◌, refl, sym, ap, ◌∙◌}
 use mathlib.Core.List.{List}
 use Prim.Native.Nat.{ℕ, ◌+◌, ◌-◌, ◌*◌, ◌/◌, ◌%◌, ◌<◌, ◌≤◌}
 use native.Mathlib.Decide.{ℕ_discrete, dec_lt}
-use native.Mathlib.Nat.{le_antisymm, mod-lt, mod-mod}
+use native.Mathlib.Nat.{mod-lt, mod-mod}
 use native.Mathlib.Numerals.{add-one}
 use native.Mathlib.Omega.{arith}
-use lib.ListN.{length, get_or, set}
-use lib.Seq.{get_or-set_same, get_or-set_other}
+use lib.ListN.{length, get_or}
 use borrow.Author.Tests.{ltb-true}
+use Rattle.std.specs.Coded.{le_prop}
 use Rattle.modular.specs.Modular.{neg}
 use Rattle.modular.proofs.Listed.{dimension}
 use Rattle.row.specs.Row.{x_of}
@@ -27,12 +27,16 @@ use Rattle.runs.proofs.Results.{measured-more, measured-before}
 use Rattle.run_laws.proofs.Corrections.{without_shift}
 use Rattle.lanes.specs.Lanes.{lane, Lanes}
 use Rattle.lanes.proofs.Lanes.{lane-at}
-use Rattle.tile.specs.Tile.{TileRoom, ShotsRoom, ResultRow, shot_at, Flushed}
+use Rattle.tile.specs.Tile.{ShotsRoom, shot_at, Flushed}
+use Rattle.tile.specs.declared.HeldResults.{HeldResults}
 use Rattle.calendar.specs.Calendar.{AllErrorsApplied, Queued}
-use Rattle.correction.specs.Correction.{reported_in}
+use Rattle.calendar.specs.declared.Queue.{Queue}
 use Rattle.correction.proofs.Correcting.{when_written, when_held}
 use Rattle.block.specs.Carried.{CarriedTo, CarriedAll}
-use Rattle.block.specs.Block.{outcome_of, mark_of, NoFrames, CleanCircuit, ResultsUpTo, Reported, reset, corrected, Stepped, gated, results-row, adjusted, AllResults}
+use Rattle.block.specs.Clean.{CleanCircuit}
+use Rattle.block.specs.declared.clean.CleanRun.{CleanRun}
+use Rattle.block.specs.declared.Block.{Block}
+use Rattle.block.specs.Block.{operations_in, operation_in, results_in, mark_of, outcome_in, NoFrames, ResultsUpTo, reported_at, Reported, Pushed, Stepped, gated, measured-to, reset, corrected, AllResults}
 use Rattle.block.proofs.Carried.{carried_step, carried-end}
 
 module _ {d n : ℕ} {ops : List Operation} {errors : ℕ → List WeylError} {used : ℕ} (few : used ≤ 256) where
@@ -46,71 +50,72 @@ module _ {d n : ℕ} {ops : List Operation} {errors : ℕ → List WeylError} {u
       ∙ ap (λ (F : List ℕ). x_of F q) (b.each l (omega arith) ∙ ap (λ (F : List ℕ). errors_on_frame d n (errors l) k F (length (errors l))) (a.each l m ∙ ap (λ (F : List ℕ). carried_frame d n ops (errors l) F k) (z l (omega arith))))
       ∙ sym (shift_of d n ops (errors l) (no_frame n) k q h e)
 
-module _ {d n : ℕ} {ops : List Operation} {errors : ℕ → List WeylError} {clean : List ℕ} {w used : ℕ} where
-  pub results-none : {tile marks out : List ℕ} → ResultsUpTo d n ops errors clean w used 0 0 tile marks out
-  results-none =
+module _ {clean : CleanRun} {errors : ℕ → List WeylError} {used : ℕ} where
+  pub results-none : {held : HeldResults} {out : List ℕ} → held.first ≡ 0 → held.count ≡ 0 → ResultsUpTo clean errors used held out
+  results-none a b =
       record {
-        low = omega arith;
-        high = omega arith;
         outcomes = λ l i h g. absurd (omega arith);
         marks_too = λ l i h g. absurd (omega arith);
-        held = λ l y h g. absurd (omega arith);
+        held-outcomes = λ l y h g. absurd (omega arith);
         held-marks = λ y g. absurd (omega arith);
       }
 
-  pub results-more : {base j k q : ℕ} {v₀ v u tile tile' marks out : List ℕ} (y : ℕ) → used ≤ 256 → NoFrames n v₀ → CarriedTo d n ops errors used k v₀ v → AllErrorsApplied d n errors k v u
-      → k < length ops → q < n → kind (op_at ops k) ≡ measures q → j ≡ measured ops k → j ≡ base + y → y < 16 → length marks ≡ 16
-      → ResultsUpTo d n ops errors clean w used base j tile marks out
-      → ResultRow d q (get_or clean (2 * j) 0) y u tile tile'
-      → ResultsUpTo d n ops errors clean w used base (j + 1) tile' (set marks y (get_or clean (2 * j + 1) 0)) out
-  results-more {base} {j} {k} {q} {tile = tile} {tile' = tile'} {marks = marks} y few z a b h g e ej ey small room t m =
+  -- the results of one more measurement are held
+  pub results-more : {k q : ℕ} {v₀ v u out : List ℕ} {held held' : HeldResults} → used ≤ 256 → NoFrames clean.n v₀
+      → CarriedTo clean.m.d clean.n (operations_in clean) errors used k v₀ v → AllErrorsApplied clean.m.d clean.n errors k v u
+      → k < length (operations_in clean) → q < clean.n → kind (operation_in clean k) ≡ measures q → results_in held ≡ measured (operations_in clean) k
+      → ResultsUpTo clean errors used held out
+      → Pushed clean.m.d q (get_or clean.results.now (2 * results_in held) 0) (get_or clean.results.now (2 * results_in held + 1) 0) u held held'
+      → ResultsUpTo clean errors used held' out
+  results-more {k} {q} {v₀} {v} {u} {out} {held} {held'} few z a b h g e ej t p =
       record {
-        low = omega (arith, t.low);
-        high = omega arith;
-        outcomes = t.outcomes;
-        marks_too = t.marks_too;
-        held = λ l x p r. held l x p r (ℕ_discrete x y);
-        held-marks = λ x r. held-marks x r (ℕ_discrete x y);
+        outcomes = λ l i m r. t.outcomes l i m (omega (arith, p.first));
+        marks_too = λ l i m r. t.marks_too l i m (omega (arith, p.first));
+        held-outcomes = λ l x m r. rw p.first (outcomes l x m (omega (arith, p.count)) (ℕ_discrete x held.count));
+        held-marks = λ x r. rw p.first (marks x (omega (arith, p.count)) (ℕ_discrete x held.count));
       }
     where
-      held : (l x : ℕ) → l < used → base + x < j + 1 → Dec (x ≡ y) → get_or tile' (256 * x + l) 0 ≡ outcome_of d n ops clean (errors l) (base + x)
-      held l x p r (yes i) =
-          rw (i, ← ey)
-          (m.here l (omega arith)
-          ∙ ap (λ (s : ℕ). (get_or clean (2 * j) 0 + s) % d)
-          (result_row-is few z a b h g e l p ∙ ap (λ (s : ℕ). get_or (result_shifts d n ops (errors l) (no_frame n)) s 0) (sym ej)))
-      held l x p r (no i) = m.others x l (omega arith) (omega arith) ∙ t.held l x p (omega arith)
+      outcomes : (l x : ℕ) → l < used → x < held.count + 1 → Dec (x ≡ held.count) → get_or held'.tile.cells (256 * x + l) 0 ≡ outcome_in clean (errors l) (held.first + x)
+      outcomes l x m r (yes i) =
+          rw i
+          (p.row.here l (omega arith)
+          ∙ ap (λ (s : ℕ). (get_or clean.results.now (2 * results_in held) 0 + s) % clean.m.d)
+          (result_row-is few z a b h g e l m ∙ ap (λ (s : ℕ). get_or (result_shifts clean.m.d clean.n (operations_in clean) (errors l) (no_frame clean.n)) s 0) (sym ej)))
+      outcomes l x m r (no i) = p.row.others x l (omega arith) (omega arith) ∙ t.held-outcomes l x m (omega arith)
 
-      held-marks : (x : ℕ) → base + x < j + 1 → Dec (x ≡ y) → get_or (set marks y (get_or clean (2 * j + 1) 0)) x 0 ≡ mark_of clean (base + x)
-      held-marks x r (yes i) = rw (i, ← ey) (get_or-set_same marks y _ 0 (omega arith))
-      held-marks x r (no i) = get_or-set_other marks y x _ 0 i ∙ t.held-marks x (omega arith)
+      marks : (x : ℕ) → x < held.count + 1 → Dec (x ≡ held.count) → get_or held'.marks x 0 ≡ mark_of clean.results.now (held.first + x)
+      marks x r (yes i) = rw i p.mark_too.here
+      marks x r (no i) = p.mark_too.others x (omega arith) ∙ t.held-marks x (omega arith)
 
-  -- the tile's results are written
-  pub results_flushed : {base j : ℕ} {tile tile' marks out out' : List ℕ} → used ≤ 256
-      → ResultsUpTo d n ops errors clean w used base j tile marks out
-      → Flushed w used base (j - base) tile marks out out'
-      → ResultsUpTo d n ops errors clean w used j j tile' marks out'
-  results_flushed {base} {j} {tile} {tile'} {marks} {out} {out'} few t f =
+  -- the held results are written
+  pub results_flushed : {held held' : HeldResults} {out out' : List ℕ} → used ≤ 256
+      → ResultsUpTo clean errors used held out
+      → Flushed clean.w used held.first held.count held.tile.cells held.marks out out'
+      → held'.first ≡ results_in held → held'.count ≡ 0
+      → ResultsUpTo clean errors used held' out'
+  results_flushed {held} {held'} {out} {out'} few t f first none =
       record {
-        low = omega arith;
-        high = omega arith;
-        outcomes = λ l i h g. outcomes l i h g (dec_lt i base);
-        marks_too = λ l i h g. marks_too l i h g (dec_lt i base);
-        held = λ l y h g. absurd (omega arith);
-        held-marks = λ y g. absurd (omega arith);
+        outcomes = λ l i h g. outcomes l i h (omega (arith, first)) (dec_lt i held.first);
+        marks_too = λ l i h g. marks_too l i h (omega (arith, first)) (dec_lt i held.first);
+        held-outcomes = λ l y h g. absurd (omega (arith, none));
+        held-marks = λ y g. absurd (omega (arith, none));
       }
     where
-      outcomes : (l i : ℕ) → l < used → i < j → Dec (i < base) → get_or (shot_at w out' l) (1 + 2 * i) 0 ≡ outcome_of d n ops clean (errors l) i
+      outcomes : (l i : ℕ) → l < used → i < results_in held → Dec (i < held.first) → get_or (shot_at clean.w out' l) (1 + 2 * i) 0 ≡ outcome_in clean (errors l) i
       outcomes l i h g (yes c) = f.before l (1 + 2 * i) h (omega arith) ∙ t.outcomes l i h c
       outcomes l i h g (no c) =
-          let q : base + (i - base) ≡ i = omega arith in
-          rw q at (f.outcomes l (i - base) h (omega arith) ∙ t.held l (i - base) h (omega arith))
+          let q : held.first + (i - held.first) ≡ i = omega arith in
+          rw q at (f.outcomes l (i - held.first) h (omega arith) ∙ t.held-outcomes l (i - held.first) h (omega arith))
 
-      marks_too : (l i : ℕ) → l < used → i < j → Dec (i < base) → get_or (shot_at w out' l) (2 + 2 * i) 0 ≡ mark_of clean i
+      marks_too : (l i : ℕ) → l < used → i < results_in held → Dec (i < held.first) → get_or (shot_at clean.w out' l) (2 + 2 * i) 0 ≡ mark_of clean.results.now i
       marks_too l i h g (yes c) = f.before l (2 + 2 * i) h (omega arith) ∙ t.marks_too l i h c
       marks_too l i h g (no c) =
-          let q : base + (i - base) ≡ i = omega arith in
-          rw q at (f.marks_too l (i - base) h (omega arith) ∙ t.held-marks (i - base) (omega arith))
+          let q : held.first + (i - held.first) ≡ i = omega arith in
+          rw q at (f.marks_too l (i - held.first) h (omega arith) ∙ t.held-marks (i - held.first) (omega arith))
+
+-- that at most 16 results are held has one proof
+pub same_held : (held : HeldResults) (few : held.count ≤ 16) → record held { few = few } ≡ held
+same_held held few = ap (λ (p : held.count ≤ 16). record held { few = p }) (le_prop few held.few)
 
 -- a measurement has its clean result
 pub measured-room : (d n : ℕ) (ops clean : List ℕ) → CleanCircuit d n ops clean → (k j q : ℕ) → k < length ops / 4 → j ≡ measured (operations_of d n ops) k
@@ -140,104 +145,101 @@ shift_back d c s low =
     ap (neg d) (ap (λ (x : ℕ). (x % d + neg d c) % d) q ∙ without_shift d s c low) ∙ ap (λ (x : ℕ). (d - x) % d) (mod-mod s d)
 
 -- a reported result is the outcome, wherever it is read
-module _ {d n : ℕ} {ops : List Operation} {errors : ℕ → List WeylError} {clean : List ℕ} {w used base j : ℕ} {tile marks out : List ℕ}
-    (t : ResultsUpTo d n ops errors clean w used base j tile marks out) where
-  reported-is : (m l : ℕ) → m < j → l < used → reported_in w base tile out m l ≡ outcome_of d n ops clean (errors l) m
-  reported-is m l h g = by (dec_lt m base)
+module _ {clean : CleanRun} {errors : ℕ → List WeylError} (block : Block) {out : List ℕ} (t : ResultsUpTo clean errors block.used block.held out) where
+  reported-is : (i l : ℕ) → i < results_in block.held → l < block.used → reported_at clean block out i l ≡ outcome_in clean (errors l) i
+  reported-is i l h g = by (dec_lt i block.held.first)
     where
-      by : Dec (m < base) → reported_in w base tile out m l ≡ outcome_of d n ops clean (errors l) m
-      by (yes c) = when_written w base tile out m l c ∙ t.outcomes l m g c
+      by : Dec (i < block.held.first) → reported_at clean block out i l ≡ outcome_in clean (errors l) i
+      by (yes c) = when_written clean.w block.held.first block.held.tile.cells out i l c ∙ t.outcomes l i g c
       by (no c) =
-          let q : base + (m - base) ≡ m = omega arith in
-          when_held w base tile out m l (omega arith) ∙ rw q at (t.held l (m - base) g (omega arith))
+          let q : block.held.first + (i - block.held.first) ≡ i = omega arith in
+          when_held clean.w block.held.first block.held.tile.cells out i l (omega arith) ∙ rw q at (t.held-outcomes l (i - block.held.first) g (omega arith))
 
-  pub reported : 0 < d → length tile ≡ 4096 → ShotsRoom w used out → 1 + 2 * j ≤ w → Reported d w used base j tile out
-  reported low room shots wide =
-      record { shots = shots; tile_room = room; high = t.high; wide = wide; below = λ m l h g. rw (reported-is m l h g) (mod-lt _ low) }
+  pub reported : 0 < clean.m.d → ShotsRoom clean.w block.used out → 1 + 2 * results_in block.held ≤ clean.w → Reported clean block out
+  reported low shots wide = record { shots = shots; wide = wide; below = λ i l h g. rw (reported-is i l h g) (mod-lt _ low) }
 
 -- before operation k
-pub record BlockProgress (d n : ℕ) (ops : List ℕ) (errors : ℕ → List WeylError) (clean : List ℕ) (w used k j base : ℕ)
-    (out₀ v₀ out v slots counts cursors tile spare marks : List ℕ) : Type 0 where
-  pub within : k ≤ length ops / 4
-  pub lanes : CarriedTo d n (operations_of d n ops) errors used k v₀ v
-  pub powers : Lanes d n v
-  pub queued : Queued errors slots counts cursors k
-  pub results : ResultsUpTo d n (operations_of d n ops) errors clean w used base j tile marks out
-  pub recent : j < base + 16
-  pub count : j ≡ measured (operations_of d n ops) k
-  pub out-len : length out ≡ length out₀
-  pub room : TileRoom tile spare marks
+pub record BlockProgress (clean : CleanRun) (errors : ℕ → List WeylError) (k : ℕ) (block₀ : Block) (out : List ℕ) (block : Block) : Type 0 where
+  pub lanes : CarriedTo clean.m.d clean.n (operations_in clean) errors block₀.used k block₀.lanes block.lanes
+  pub powers : Lanes clean.m.d clean.n block.lanes
+  pub queued : Queued errors block.queue k
+  pub results : ResultsUpTo clean errors block₀.used block.held out
+  pub room : block.held.count < 16
+  pub count : results_in block.held ≡ measured (operations_in clean) k
+  pub used : block.used ≡ block₀.used
 
--- a step of the run
-pub record Next (d n : ℕ) (ops : List Operation) (errors : ℕ → List WeylError) (clean : List ℕ) (w used base k r : ℕ) (v₀ v tile marks out : List ℕ) : Type 0 where
-  pub lanes : CarriedTo d n ops errors used (k + 1) v₀ v
-  pub results : ResultsUpTo d n ops errors clean w used base r tile marks out
-  pub count : r ≡ measured ops (k + 1)
+-- a step of the run: the errors of place k, and operation k
+module _ {clean : CleanRun} {errors : ℕ → List WeylError} {k : ℕ} {block₀ : Block} {out : List ℕ} (block : Block) (u : List ℕ) (queue' : Queue)
+    (few : block₀.used ≤ 256) (empty : NoFrames clean.n block₀.lanes) (inside : k < length clean.ops.now / 4)
+    (a : BlockProgress clean errors k block₀ out block) (b : AllErrorsApplied clean.m.d clean.n errors k block.lanes u) where
+  abbrev after-errors : Block
+  after-errors = record block { lanes = u; queue = queue' }
 
-pub next-step : {d n : ℕ} {ops : List ℕ} {errors : ℕ → List WeylError} {clean : List ℕ} {w used k j base r : ℕ}
-    {out₀ v₀ out v slots counts cursors tile spare marks u x tile' marks' : List ℕ} → CleanCircuit d n ops clean → used ≤ 256 → NoFrames n v₀
-    → k < length ops / 4
-    → BlockProgress d n ops errors clean w used k j base out₀ v₀ out v slots counts cursors tile spare marks
-    → AllErrorsApplied d n errors k v u
-    → Stepped d n ops clean k j (j - base) w used base out u tile marks x tile' marks' r
-    → Next d n (operations_of d n ops) errors clean w used base k r v₀ x tile' marks' out
-unfolding measured
-next-step {d} {n} {ops} {k = k} st few z h a b (gated w g s) =
-    record {
-      lanes = carried_step few st.names (omega (arith, op-count d n ops)) a.lanes b s.len (λ l m. rw g (s.each l (omega arith)));
-      results = a.results;
-      count = rw (add-one k) (omega (arith, a.count, ap tally_kind g));
-    }
-next-step {d} {n} {ops} {k = k} {j = j} {base = base} {u = u} st few z h a b (results-row q tile' g low s) =
-    let y : j ≡ base + (j - base) = omega (arith, a.results.low) in
-    let l : k < length (operations_of d n ops) = omega (arith, op-count d n ops) in
-    record {
-      lanes = carried_step few st.names l a.lanes b refl (λ i m. rw g refl);
-      results = results-more (j - base) few z a.lanes b l low g a.count y (omega (arith, a.recent)) a.room.marks-room a.results s;
-      count = rw (add-one k) (omega (arith, a.count, ap tally_kind g));
-    }
-next-step {d} {n} {ops} {k = k} st few z h a b (adjusted x (reset q g s)) =
-    record {
-      lanes = carried_step few st.names (omega (arith, op-count d n ops)) a.lanes b s.len (λ l m. rw g (s.each l (omega arith)));
-      results = a.results;
-      count = rw (add-one k) (omega (arith, a.count, ap tally_kind g));
-    }
-next-step {d} {n} {ops} {errors} {clean} {w} {used} {k} {j} {base} {v₀ = v₀} {out = out} {tile = tile} {u = u} st few z h a b (adjusted x (corrected t m g before s)) =
-    record {
-      lanes = carried_step few st.names (omega (arith, op-count d n ops)) a.lanes b s.len (λ l i. rw g (s.each l i ∙ loses l i));
-      results = a.results;
-      count = rw (add-one k) (omega (arith, a.count, ap tally_kind g));
-    }
-  where
-    c : ℕ
-    c = get_or clean (2 * m) 0
+  abbrev d : ℕ
+  d = clean.m.d
 
-    shift : ℕ → ℕ
-    shift l = get_or (result_shifts d n (operations_of d n ops) (errors l) (lane n v₀ l)) m 0
+  abbrev n : ℕ
+  n = clean.n
 
-    loses : (l : ℕ) → l < used → less_x d t ((reported_in w base tile out m l + neg d c) % d) (lane n u l) ≡ less_x d t (shift l) (lane n u l)
-    loses l i =
-        let low : 0 < d = omega (arith, (dimension d st.dimension).low) in
-        let e = reported-is a.results m l (omega (arith, a.count)) i
-        ∙ ap (λ (F : List ℕ). (c + get_or (result_shifts d n (operations_of d n ops) (errors l) F) m 0) % d) (sym (z l (omega arith))) in
-        ap (λ (y : ℕ). with_x t ((x_of (lane n u l) t + y) % d) (lane n u l))
-        (ap (λ (y : ℕ). neg d ((y + neg d c) % d)) e ∙ shift_back d c (shift l) low)
+  abbrev ops : List Operation
+  ops = operations_in clean
 
-all_results : {d n : ℕ} {ops : List Operation} {errors : ℕ → List WeylError} {clean : List ℕ} {w used j : ℕ} {tile marks out out' : List ℕ}
-    → length out' ≡ length out → j ≡ measured ops (length ops) → ResultsUpTo d n ops errors clean w used j j tile marks out'
-    → AllResults d n ops errors clean w used out out'
-all_results e q t =
-    record { len = e; outcomes = λ l i h g. t.outcomes l i h (omega arith); marks_too = λ l i h g. t.marks_too l i h (omega arith) }
+  circuit : CleanCircuit d n clean.ops.now clean.results.now
+  circuit = clean.circuit
+
+  in_list : k < length ops
+  in_list = omega (arith, op-count d n clean.ops.now)
+
+  pub next-lanes : {block' : Block} → Stepped clean k out after-errors block' → CarriedTo d n ops errors block₀.used (k + 1) block₀.lanes block'.lanes
+  next-lanes (gated g s e) = carried_step few circuit.names in_list a.lanes b s.len (λ l m. rw g (s.each l (omega arith)))
+  next-lanes (measured-to q g low e p) = rw e (carried_step few circuit.names in_list a.lanes b refl (λ i m. rw g refl))
+  next-lanes (reset q g s e) = carried_step few circuit.names in_list a.lanes b s.len (λ l m. rw g (s.each l (omega arith)))
+  next-lanes (corrected t i g before s e) =
+      carried_step few circuit.names in_list a.lanes b s.len (λ l m. rw g (s.each l (rw a.used m) ∙ loses l m))
+    where
+      c : ℕ
+      c = get_or clean.results.now (2 * i) 0
+
+      shift : ℕ → ℕ
+      shift l = get_or (result_shifts d n ops (errors l) (lane n block₀.lanes l)) i 0
+
+      loses : (l : ℕ) → l < block₀.used → less_x d t ((reported_at clean after-errors out i l + neg d c) % d) (lane n u l) ≡ less_x d t (shift l) (lane n u l)
+      loses l m =
+          let low : 0 < d = omega (arith, (dimension d circuit.dimension).low) in
+          let e = reported-is after-errors (rw (← a.used) at a.results) i l before (rw a.used m)
+          ∙ ap (λ (F : List ℕ). (c + get_or (result_shifts d n ops (errors l) F) i 0) % d) (sym (empty l (omega arith))) in
+          ap (λ (y : ℕ). with_x t ((x_of (lane n u l) t + y) % d) (lane n u l))
+          (ap (λ (y : ℕ). neg d ((y + neg d c) % d)) e ∙ shift_back d c (shift l) low)
+
+  pub next-results : {block' : Block} → Stepped clean k out after-errors block' → ResultsUpTo clean errors block₀.used block'.held out
+  next-results (gated g s e) = rw e a.results
+  next-results (measured-to q g low e p) = results-more few empty a.lanes b in_list low g a.count a.results p
+  next-results (reset q g s e) = rw e a.results
+  next-results (corrected t i g before s e) = rw e a.results
+
+  pub next-count : {block' : Block} → Stepped clean k out after-errors block' → results_in block'.held ≡ measured ops (k + 1)
+  unfolding measured
+  next-count (gated g s e) = rw (e, add-one k) (omega (arith, a.count, ap tally_kind g))
+  next-count (measured-to q g low e p) = rw (p.first, p.count, add-one k) (omega (arith, a.count, ap tally_kind g))
+  next-count (reset q g s e) = rw (e, add-one k) (omega (arith, a.count, ap tally_kind g))
+  next-count (corrected t i g before s e) = rw (e, add-one k) (omega (arith, a.count, ap tally_kind g))
+
+-- errors applied to the same dimension and qudits
+pub same-applied : {d e n m : ℕ} {errors : ℕ → List WeylError} {k : ℕ} {v w : List ℕ} → d ≡ e → n ≡ m → AllErrorsApplied d n errors k v w → AllErrorsApplied e m errors k v w
+same-applied p q a = rw (← p, ← q) a
 
 -- past the last operation
-pub going_end : {d n : ℕ} {ops : List ℕ} {errors : ℕ → List WeylError} {clean : List ℕ} {w used k j base : ℕ}
-    {out₀ v₀ out v slots counts cursors tile spare marks u out' : List ℕ} → used ≤ 256 → length ops / 4 ≤ k
-    → BlockProgress d n ops errors clean w used k j base out₀ v₀ out v slots counts cursors tile spare marks
-    → AllErrorsApplied d n errors k v u
-    → Flushed w used base (j - base) tile marks out out'
-    → CarriedAll d n (operations_of d n ops) errors used v₀ u × AllResults d n (operations_of d n ops) errors clean w used out₀ out'
-going_end {d} {n} {ops} {k = k} {tile = tile} few h a b f =
-    let e : k ≡ length (operations_of d n ops) = le_antisymm a.within h ∙ sym (op-count d n ops) in (
-      carried-end few (rw e at a.lanes) (rw e at b),
-      all_results (f.len ∙ a.out-len) (rw e at a.count) (results_flushed {tile' = tile} few a.results f),
-    )
+module _ {clean : CleanRun} {errors : ℕ → List WeylError} {block₀ : Block} {out : List ℕ} {block : Block} (few : block₀.used ≤ 256)
+    (a : BlockProgress clean errors (length clean.ops.now / 4) block₀ out block) where
+  pub carried-last : {u : List ℕ} → AllErrorsApplied clean.m.d clean.n errors (length clean.ops.now / 4) block.lanes u
+      → CarriedAll clean.m.d clean.n (operations_in clean) errors block₀.used block₀.lanes u
+  carried-last b = let e = sym (op-count clean.m.d clean.n clean.ops.now) in carried-end few (rw e at a.lanes) (rw e at b)
+
+  pub all_results : {out₀ out' : List ℕ} (held' : HeldResults) → length out ≡ length out₀ → Flushed clean.w block₀.used block.held.first block.held.count block.held.tile.cells block.held.marks out out'
+      → held'.first ≡ results_in block.held → held'.count ≡ 0
+      → AllResults clean.m.d clean.n (operations_in clean) errors clean.results.now clean.w block₀.used out₀ out'
+  all_results held' e f first none =
+      let t = results_flushed {held' = held'} few a.results f first none in
+      let all : held'.first ≡ measured (operations_in clean) (length (operations_in clean)) =
+      first ∙ a.count ∙ ap (measured (operations_in clean)) (sym (op-count clean.m.d clean.n clean.ops.now)) in
+      record { len = f.len ∙ e; outcomes = λ l i h g. t.outcomes l i h (omega (arith, all)); marks_too = λ l i h g. t.marks_too l i h (omega (arith, all)) }

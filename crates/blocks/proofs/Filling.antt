@@ -62,7 +62,7 @@ module _ (d n : ℕ) (ops : List Operation) (clean : State) (errors : ℕ → Li
         ∙ sym (part_at (i * w) w ys x k))
         ∙ h.rows i l
 
-    pub filled-block : ShotsFilled d n ops clean errors w first (first + count) out (put (first * w) (count * w) ys out)
+    filled-block : ShotsFilled d n ops clean errors w first (first + count) out (put (first * w) (count * w) ys out)
     filled-block =
         record {
           len = whole;
@@ -70,6 +70,9 @@ module _ (d n : ℕ) (ops : List Operation) (clean : State) (errors : ℕ → Li
           before = λ b l. put-left (first * w) (count * w) ys out room size b l;
           after = λ b l. put_right (first * w) (count * w) ys out room size b (omega (arith, both));
         }
+
+    pub filled-to : {last : ℕ} → first + count ≡ last → ShotsFilled d n ops clean errors w first last out (put (first * w) (count * w) ys out)
+    filled-to e = rw (← e) filled-block
 
   -- one block more
   pub filled_more : (first next : ℕ) (out mid out' : List ℕ) → first ≤ next → next * w ≤ length out
@@ -101,12 +104,22 @@ module _ (d n : ℕ) (ops : List Operation) (clean : State) (errors : ℕ → Li
   shifted-few zero = omega arith
   shifted-few (suc k) = omega (arith, shifted-few k, verdict-small d n (final_frame d n ops (errors k) (no_frame n)) clean.rows)
 
-  pub shifted-more : (first k : ℕ)
+  shifted-more : (first k : ℕ)
       → shifted_shots d n ops clean errors (first + k) ≡ shifted_shots d n ops clean errors first + shifted_shots d n ops clean (λ i. errors (first + i)) k
   unfolding shifted_shots
   shifted-more first zero = let q : first + 0 ≡ first = omega arith in rw q (omega arith)
   shifted-more first (suc k) = let q : first + suc k ≡ suc (first + k) = omega arith in rw q (omega (arith, shifted-more first k))
 
+  pub shifted-to : (first count : ℕ) {last : ℕ} → first + count ≡ last
+      → shifted_shots d n ops clean errors last ≡ shifted_shots d n ops clean errors first + shifted_shots d n ops clean (λ i. errors (first + i)) count
+  shifted-to first count e = rw (← e) (shifted-more first count)
+
 -- a block lies in the buffer
 pub block_inside : (first count shots w L : ℕ) → first + count ≤ shots → shots * w ≤ L → first * w + count * w ≤ L
 block_inside first count shots w L h g = omega (arith, add-mul first count w, mul-le-mul_right w h)
+
+-- the bytes between two shots
+pub between : (first last w : ℕ) → first ≤ last → last * w - first * w ≡ (last - first) * w
+between first last w h =
+    let e : first + (last - first) ≡ last = omega arith in
+    omega (arith, add-mul first (last - first) w, ap (λ (x : ℕ). x * w) e)

@@ -19,7 +19,8 @@ use Rattle.runs.specs.Direct.{State}
 use Rattle.runs.specs.Frame.{no_frame, verdict_of}
 use Rattle.runs.specs.Raised.{final_frame}
 use Rattle.run_laws.proofs.NoErrors.{final_clean}
-use Rattle.calendar.specs.LaneErrors.{lane_errors}
+use Rattle.calendar.specs.LaneErrors.{errors_at}
+use Rattle.calendar.specs.declared.lane_errors.Span.{Span}
 use Rattle.shots.specs.Clean.{clean_plus}
 use Rattle.shots.proofs.NoErrors.{clean-alone}
 use Rattle.lane_shots.specs.LaneShots.{bytes_by, verdict_by, shifted_shots, ShotRows}
@@ -29,12 +30,12 @@ use Rattle.blocks.specs.Blocks.{shot_errors, Assigned}
 use Rattle.blocks.proofs.Assignment.{no_bytes, lane-errors}
 
 module _ (d n : ℕ) (dim : Dimension d) (ops : List Operation) (good : (k : ℕ) → k < length ops → allowed d n (op_at ops k) ≡ true) (clean : State)
-    (tray : List ℕ) (first count : ℕ) (starts sizes : List ℕ) (h : Assigned tray first count starts sizes) where
+    (tray : List ℕ) (first count : ℕ) (spans : List Span) (h : Assigned tray first count spans) where
   abbrev shots : ℕ → List WeylError
   shots i = shot_errors tray (first + i)
 
   abbrev lanes : ℕ → List WeylError
-  lanes = lane_errors tray starts sizes
+  lanes = errors_at tray spans
 
   none : (i : ℕ) → length_at tray (first + i) ≡ 0 → shots i ≡ []
   none i e = no_bytes (start_of tray (first + i)) (length_at tray (first + i)) tray e

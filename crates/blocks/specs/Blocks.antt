@@ -3,35 +3,35 @@ use Rattle.std.specs.Prelude.{◌≡◌, ◌≢◌, ◌⊎◌, List, ℕ, ◌+�
 use Rattle.operation.specs.declared.Operation.{Operation}
 use Rattle.operation.specs.declared.WeylError.{WeylError}
 use Rattle.circuit.specs.Circuit.{ErrorsInOrder}
-use Rattle.book.specs.Decoded.{operations_of, errors_of}
+use Rattle.book.specs.Decoded.{errors_of}
 use Rattle.tray.specs.Tray.{shots_in, length_at, start_of, shot_body}
 use Rattle.expand.specs.Expand.{noisy_among}
-use Rattle.runs.specs.Direct.{State, state_of}
+use Rattle.runs.specs.Direct.{State}
 use Rattle.tile.specs.Tile.{shot_at}
-use Rattle.lane_shots.specs.LaneShots.{bytes_by, shifted_shots, ShotRows}
+use Rattle.calendar.specs.LaneErrors.{span_at}
+use Rattle.calendar.specs.declared.lane_errors.Span.{Span}
+use Rattle.lane_shots.specs.LaneShots.{bytes_by}
 
 -- the errors of shot i
 abbrev pub shot_errors : List ℕ → ℕ → List WeylError
 shot_errors tray i = errors_of (shot_body tray i)
 
 -- where a lane's body begins and how long it is: it is a shot's, or empty
-pub record OfShot (tray : List ℕ) (start size : ℕ) : Type 0 where
+pub record OfShot (tray : List ℕ) (span : Span) : Type 0 where
   pub shot : ℕ
   pub inside : shot < shots_in tray
-  pub begins : start ≡ start_of tray shot
-  pub long : size ≡ length_at tray shot
+  pub begins : span.start ≡ start_of tray shot
+  pub long : span.size ≡ length_at tray shot
 
-pub record NoBody (start size : ℕ) : Type 0 where
-  pub begins : start ≡ 0
-  pub long : size ≡ 0
+pub record NoBody (span : Span) : Type 0 where
+  pub begins : span.start ≡ 0
+  pub long : span.size ≡ 0
 
 -- Of k shots, the first of them shot `first`, those that have errors stand in the lanes, in order.
-pub record Assigned (tray : List ℕ) (first k : ℕ) (starts sizes : List ℕ) : Type 0 where
-  pub starts_room : length starts ≡ 256
-  pub sizes-room : length sizes ≡ 256
+pub record Assigned (tray : List ℕ) (first k : ℕ) (spans : List Span) : Type 0 where
   pub lane_of : (i : ℕ) → i < k → length_at tray (first + i) ≢ 0
-      → (get_or starts (noisy_among tray first i) 0 ≡ start_of tray (first + i)) × (get_or sizes (noisy_among tray first i) 0 ≡ length_at tray (first + i))
-  pub shot_of : (l : ℕ) → l < 256 → OfShot tray (get_or starts l 0) (get_or sizes l 0) ⊎ NoBody (get_or starts l 0) (get_or sizes l 0)
+      → ((span_at spans (noisy_among tray first i)).start ≡ start_of tray (first + i)) × ((span_at spans (noisy_among tray first i)).size ≡ length_at tray (first + i))
+  pub shot_of : (l : ℕ) → l < 256 → OfShot tray (span_at spans l) ⊎ NoBody (span_at spans l)
 
 -- a tray of at most 4096 shots, whose table and bodies lie in it
 pub record InTray (tray : List ℕ) : Type 0 where
@@ -56,21 +56,3 @@ pub record ShotsFilled (d n : ℕ) (ops : List Operation) (clean : State) (error
   pub rows : (i : ℕ) → first ≤ i → i < next → shot_at w out' i ≡ bytes_by d n ops clean errors i
   pub before : (b : ℕ) → b < first * w → get_or out' b 0 ≡ get_or out b 0
   pub after : (b : ℕ) → next * w ≤ b → get_or out' b 0 ≡ get_or out b 0
-
--- the shots of a tray, by the bytes of the circuit, of the clean run's end and of the tray
-module _ (d n : ℕ) (ops clean t tray : List ℕ) where
-  -- the rows of `count` shots, the first of them shot `first`, and how many of them are shifted
-  abbrev pub RowsFrom : (first w count : ℕ) (out out' : List ℕ) → Type 0
-  RowsFrom first w count out out' =
-      ShotRows d n (operations_of d n ops) (state_of t clean) (λ i. shot_errors tray (first + i)) w count out out'
-
-  abbrev pub shifted_from : ℕ → ℕ → ℕ
-  shifted_from first count = shifted_shots d n (operations_of d n ops) (state_of t clean) (λ i. shot_errors tray (first + i)) count
-
-  -- the shots from `first` on, up to shot `next`, in the buffer of all shots, and how many of the first k are shifted
-  abbrev pub TrayFilled : (w first next : ℕ) (out out' : List ℕ) → Type 0
-  TrayFilled w first next out out' =
-      ShotsFilled d n (operations_of d n ops) (state_of t clean) (shot_errors tray) w first next out out'
-
-  abbrev pub shifted_in_tray : ℕ → ℕ
-  shifted_in_tray k = shifted_shots d n (operations_of d n ops) (state_of t clean) (shot_errors tray) k

@@ -1,5 +1,6 @@
 -- What an accepted book has passed, and what its table of contents says of its bodies.
 -- Assumes nothing.
+use Rattle.std.proofs.Common.{None}
 use mathlib.Core.Path.{◌≡◌}
 use mathlib.Core.Bool.{true, and-eq-true_iff}
 use mathlib.Core.List.{List}
@@ -11,7 +12,6 @@ use lib.Seq.{length-take-le}
 use borrow.Author.Tests.{eqb-true, leb-true}
 use Rattle.modular.specs.Dimension.{listed}
 use Rattle.tableau.specs.Tableau.{sized}
-use Rattle.search.specs.declared.Place.TheVariants.{Nowhere}
 use Rattle.book_body.specs.Body.{length_fits, ReaderAnswer, accepted, read_bodies}
 use Rattle.search.proofs.Search.{met, some-place}
 use Rattle.book_body.proofs.Sound.{NoRefusal, no_refusal, nowhere}
@@ -21,7 +21,7 @@ pub record Passed (s : List ℕ) (t : ReaderAnswer) : Type 0 where
   pub head : header_fits s ≡ true
   pub dimension : listed (dimension_of s) ≡ true
   pub qudits : sized (qudits_of s) ≡ true
-  pub contents : bad_contents s ≡ Nowhere
+  pub contents : bad_contents s ≡ None
   pub bodies : read_bodies (dimension_of s) (qudits_of s) (part_of s operations_entry) (part_of s errors_entry) (part_of s choices_entry) ≡ t
 
 pub all-passed : {t : ReaderAnswer} (s : List ℕ) → NoRefusal t → read_book s ≡ t → Passed s t
@@ -66,7 +66,7 @@ pub record ContentsLaid (s : List ℕ) : Type 0 where
   pub third : ContentsEntry s choices_entry 3 (end_of s errors_entry) 1 4096
   pub ends : end_of s choices_entry ≡ length s
 
-pub laid : (s : List ℕ) → bad_contents s ≡ Nowhere → ContentsLaid s
+pub laid : (s : List ℕ) → bad_contents s ≡ None → ContentsLaid s
 unfolding bad_contents
 laid s e =
     let m0 = met (entry_fits s operations_entry 1 22 4 4096) some-place e in
@@ -87,7 +87,7 @@ pub record Inside (s : List ℕ) : Type 0 where
   pub second : end_of s errors_entry ≤ length s
   pub third : end_of s choices_entry ≤ length s
 
-pub inside : (s : List ℕ) → header_fits s ≡ true → bad_contents s ≡ Nowhere → Inside s
+pub inside : (s : List ℕ) → header_fits s ≡ true → bad_contents s ≡ None → Inside s
 inside s h e = let l = laid s e in record { room = head-room s h; first = omega arith; second = omega arith; third = omega arith }
 
 -- a body that lies within the book has its length

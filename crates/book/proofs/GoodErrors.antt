@@ -1,5 +1,6 @@
 -- The errors of a body that has no bad entry.
 -- Assumes nothing.
+use Rattle.std.proofs.Common.{None}
 use mathlib.Core.Path.{◌≡◌}
 use mathlib.Core.Logic.{⊎_elim}
 use mathlib.Core.Bool.{true, ◌&&◌, and-eq-true_iff}
@@ -10,7 +11,6 @@ use native.Mathlib.Omega.{arith}
 use lib.Dec.{leb}
 use lib.ListN.{length}
 use borrow.Author.Tests.{leb-true}
-use Rattle.search.specs.declared.Place.TheVariants.{Nowhere}
 use Rattle.search.proofs.Search.{all-good}
 use Rattle.operation.specs.Error.{error_allowed}
 use Rattle.circuit.specs.Circuit.{err_at, ErrorsInOrder}
@@ -19,7 +19,7 @@ use Rattle.book_body.specs.Body.{place_before, good_error, bad_error}
 use Rattle.book.specs.Decoded.{errors_of}
 use Rattle.book.proofs.Lists.{error-count, error-at}
 
-module _ (d n count : ℕ) (es : List ℕ) (good : bad_error d n count es ≡ Nowhere) where
+module _ (d n count : ℕ) (es : List ℕ) (good : bad_error d n count es ≡ None) where
   fits : (j : ℕ) → j < length es / 5 →
       ((error_at es j).place ≤ count) × (place_before es j ≤ (error_at es j).place) × (error_allowed d n (error_at es j) ≡ true)
   unfolding bad_error good_error

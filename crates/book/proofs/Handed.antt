@@ -1,5 +1,6 @@
 -- What an accepted book hands to a run.
 -- Assumes nothing.
+use Rattle.std.proofs.Common.{None, Result, Ok}
 use mathlib.Core.Path.{◌≡◌, sym, ap, ◌∙◌}
 use mathlib.Core.Bool.{true, and-eq-true_iff}
 use mathlib.Core.List.{List}
@@ -12,10 +13,8 @@ use Rattle.modular.specs.Dimension.{listed}
 use Rattle.tableau.specs.Tableau.{sized}
 use Rattle.tableau.proofs.Sized.{sized-most}
 use Rattle.circuit.specs.Circuit.{measured, measurement_count, chosen, choice_count, Accepted}
-use Rattle.search.specs.declared.Place.TheVariants.{Nowhere}
 use Rattle.book_body.specs.declared.Numbers.{Numbers}
-use Rattle.book_body.specs.declared.Reading.{Reading}
-use Rattle.book_body.specs.declared.Reading.TheVariants.{Accepted as Taken}
+use Rattle.answer.specs.declared.Refusal.{Refusal}
 use Rattle.book_body.specs.Body.{measurements, accepted, answer_of, measured_of, measured_by}
 use Rattle.book_body.proofs.Sound.{no_refusal}
 use Rattle.book.specs.Book.{operations_entry, errors_entry, choices_entry, length_of, part_of, bad_contents, read_book, body_of}
@@ -23,7 +22,7 @@ use Rattle.book.specs.Decoded.{operations_of, errors_of, measurements_in, Bodies
 use Rattle.book.proofs.Contents.{all-passed, Inside, inside, laid, part_length, by_kind}
 use Rattle.book.proofs.Meaning.{accepted-means}
 
-few-choices : (s : List ℕ) → bad_contents s ≡ Nowhere → length (part_of s choices_entry) ≤ 4096
+few-choices : (s : List ℕ) → bad_contents s ≡ None → length (part_of s choices_entry) ≤ 4096
 few-choices s e =
     let l = laid s e in
     let b = ((and-eq-true_iff (eqb (length_of s choices_entry % 1) 0) (leb (length_of s choices_entry) (1 * 4096))).0 l.third.whole).1 in
@@ -73,14 +72,14 @@ handed-reads s {d} {n} {operations} {errors} {choices} reads counted =
       counted-part = ap (λ (ops : List ℕ). measurement_count (operations_of d n ops)) (sym b1) ∙ counted;
     }
 
-pub handed : (s : List ℕ) {reading : Reading} {b : Numbers} → (answer_of reading ≡ read_book s) × (measured_of reading ≡ measured_by (part_of s operations_entry) (answer_of reading))
-    → reading ≡ Taken b
+pub handed : (s : List ℕ) {reading : Result Numbers Refusal} {b : Numbers}
+    → answer_of reading ≡ read_book s → measured_of reading ≡ measured_by (part_of s operations_entry) (answer_of reading) → reading ≡ Ok b
     → Handed s b.d b.n b.measurements
-handed s {reading} {b} (e, counts) f =
+handed s {reading} {b} e counts f =
     let reads = sym e ∙ ap answer_of f in
     let m = accepted-means s b.d b.n b.operations b.errors b.choices reads in
     let own : b.measurements ≡ measurements (part_of s operations_entry) b.operations =
-    sym (ap measured_of f) ∙ counts ∙ ap (λ (r : Reading). measured_by (part_of s operations_entry) (answer_of r)) f in
+    sym (ap measured_of f) ∙ counts ∙ ap (λ (r : Result Numbers Refusal). measured_by (part_of s operations_entry) (answer_of r)) f in
     handed-reads s reads
     (ap (measured (operations_of b.d b.n (body_of s 1))) m.operation_count
     ∙ m.measurement-count
@@ -94,11 +93,9 @@ pub bodies_of : (s : List ℕ) {d n measurements : ℕ} {ops errors cs : List �
 bodies_of s g a b c = rw (a, b, c) (record { dimension = g.dimension; qudits = g.qudits; lists = g.lists; few = g.few })
 
 -- the reader's count of choices is that of the operations that take one
-pub choices-counted : (s : List ℕ) {reading : Reading} {b : Numbers}
-    → (answer_of reading ≡ read_book s) × (measured_of reading ≡ measured_by (part_of s operations_entry) (answer_of reading))
-    → reading ≡ Taken b
+pub choices-counted : (s : List ℕ) {reading : Result Numbers Refusal} {b : Numbers} → answer_of reading ≡ read_book s → reading ≡ Ok b
     → b.choices ≡ choice_count (operations_of b.d b.n (part_of s operations_entry))
-choices-counted s {reading} {b} (e, counts) f =
+choices-counted s {reading} {b} e f =
     let reads = sym e ∙ ap answer_of f in
     let m = accepted-means s b.d b.n b.operations b.errors b.choices reads in
     sym m.choices-taken

@@ -27,3 +27,5 @@ module _ (errors : List ℕ) where
   pub error-at : (j : ℕ) → j < length errors / 5 → err_at (errors_of errors) j ≡ error_at errors j
   unfolding errors_of
   error-at j h = tab-get (error_at errors) (length errors / 5) j _ h
+
+pub ruleset listed_entries = (op-count, op-at, error-count, error-at)

@@ -13,8 +13,7 @@ use Rattle.operation.specs.declared.Operation.{Operation}
 use Rattle.operation.specs.declared.Operation.TheVariants.{Fourier, PhaseGate, Sum, Cz, Swap, Multiplier, Measure, Reset, Correct}
 use Rattle.operation.specs.Operation.{allowed, named}
 use Rattle.circuit.specs.Circuit.{tally, measured, choice_tally, chosen, Accepted}
-use Rattle.book_entries.specs.declared.Decoded.{Decoded}
-use Rattle.book_entries.specs.declared.Decoded.TheVariants.{Good, Bad}
+use Rattle.std.proofs.Common.{Option, Some, None}
 use Rattle.book_entries.specs.Entry.{bytes_of, operation_at}
 use Rattle.book_body.specs.Body.{is_good, measurements, choice_takers, ReaderAnswer, refused, accepted}
 use Rattle.book_body.proofs.Sound.{no_refusal, Sound, all_sound, each_operation, one_each, each_choice}
@@ -25,9 +24,9 @@ use Rattle.book.proofs.Contents.{all-passed, by_kind}
 use Rattle.book.proofs.Lists.{op-count, op-at, error-count}
 use Rattle.book.proofs.GoodErrors.{errors-in-order, places}
 
-is_in : (earlier : ℕ) (x : Decoded) → is_good earlier x ≡ true → (x ≡ Good (operation_in x)) × (named earlier (operation_in x) ≡ true)
-is_in earlier (Good op) e = (refl, e)
-is_in earlier Bad e = absurd (false≢true e)
+is_in : (earlier : ℕ) (x : Option Operation) → is_good earlier x ≡ true → (x ≡ Some (operation_in x)) × (named earlier (operation_in x) ≡ true)
+is_in earlier (Some op) e = (refl, e)
+is_in earlier None e = absurd (false≢true e)
 
 -- 1 for the code 6, else 0
 code-tally : (op : Operation) → tally op ≡ cond (eqb (get_or (bytes_of op) 0 0) 6) 1 0

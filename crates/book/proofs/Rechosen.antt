@@ -1,6 +1,7 @@
 -- Books that begin alike are read alike up to there; and an accepted book with other choices, as many and each below d, is accepted
 -- with the same numbers and has the same operations and errors.
 -- Assumes nothing.
+use Rattle.std.proofs.Common.{None}
 use mathlib.Core.Path.{◌≡◌, sym, ap, ◌∙◌}
 use mathlib.Core.List.{List, ◌++◌}
 use Prim.Native.Nat.{ℕ, ◌+◌, ◌/◌, ◌<◌, ◌≤◌}
@@ -8,7 +9,6 @@ use native.Mathlib.Omega.{arith}
 use lib.ListN.{length, get_or, take, drop, length-append, length-take, length-drop, get_or-append}
 use lib.Seq.{length-take-le, take-length, get_or-take, get_or-drop, ext_get_or, take_at, drop_at}
 use borrow.Author.Tests.{lt-ltb, eq-eqb}
-use Rattle.search.specs.declared.Place.TheVariants.{Nowhere}
 use Rattle.search.proofs.Search.{none_fails}
 use Rattle.book_entries.specs.Entry.{word}
 use Rattle.book_body.specs.Body.{choice_takers, good_choice, bad_choice, ReaderAnswer, accepted, read_bodies}
@@ -137,7 +137,7 @@ module _ {d n operations errors choices : ℕ} (s c : List ℕ) (e : read_book s
       )
       (take-length c)
 
-  good : bad_choice (dimension_of s) (choice_takers (part_of s operations_entry) (length (part_of s operations_entry) / 4)) c ≡ Nowhere
+  good : bad_choice (dimension_of s) (choice_takers (part_of s operations_entry) (length (part_of s operations_entry) / 4)) c ≡ None
   unfolding bad_choice
   good =
       let m = accepted-means s d n operations errors choices e in

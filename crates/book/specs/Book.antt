@@ -1,9 +1,7 @@
 -- The shot book: its header, its table of contents, and its bodies by kind.
-use Rattle.std.specs.Prelude.{Bool, cond, ◌&&◌, List, [], ℕ, ◌+◌, eqb, leb, length, get_or, take, drop}
+use Rattle.std.specs.Prelude.{Bool, cond, ◌&&◌, List, [], ℕ, ◌+◌, eqb, leb, length, get_or, take, drop, Option, Some, None}
 use Rattle.modular.specs.Dimension.{listed}
 use Rattle.tableau.specs.Tableau.{sized}
-use Rattle.search.specs.declared.Place.{Place}
-use Rattle.search.specs.declared.Place.TheVariants.{At, Nowhere}
 use Rattle.search.specs.Search.{unless}
 use Rattle.book_entries.specs.Entry.{word}
 use Rattle.book_body.specs.Body.{length_fits, ReaderAnswer, refused, accepted, refuse_at, read_bodies}
@@ -47,12 +45,12 @@ entry_fits s at kind start size most =
 
 -- 4: first wrong contents entry, numbered 0 to 2; 3 if only the end is wrong. Kinds 1, 2, 3 stand in this order. The first body
 -- begins at byte 22, each next one where the last ended, and the book ends with the third.
-unfoldable pub bad_contents : List ℕ → Place
+unfoldable pub bad_contents : List ℕ → Option ℕ
 bad_contents s =
-    unless (entry_fits s operations_entry 1 22 4 4096) (At 0)
-    (unless (entry_fits s errors_entry 2 (end_of s operations_entry) 5 2048) (At 1)
-    (unless (entry_fits s choices_entry 3 (end_of s errors_entry) 1 4096) (At 2)
-    (unless (eqb (end_of s choices_entry) (length s)) (At 3) Nowhere)))
+    unless (entry_fits s operations_entry 1 22 4 4096) (Some 0)
+    (unless (entry_fits s errors_entry 2 (end_of s operations_entry) 5 2048) (Some 1)
+    (unless (entry_fits s choices_entry 3 (end_of s errors_entry) 1 4096) (Some 2)
+    (unless (eqb (end_of s choices_entry) (length s)) (Some 3) None)))
 
 -- 1: book under 22 bytes, byte 0 not 81, or byte 3 not 3; 2: d not in the list; 3: n outside 1 to 64; then 4 to 7
 unfoldable pub read_book : List ℕ → ReaderAnswer

@@ -1,5 +1,5 @@
 -- An accepted book as lists of operations, errors and choices.
-use Rattle.std.specs.Prelude.{◌≡◌, true, List, ℕ, ◌/◌, ◌≤◌, length}
+use Rattle.std.specs.Prelude.{◌≡◌, true, List, ℕ, ◌/◌, ◌≤◌, length, Option, Some, None}
 use Rattle.modular.specs.Dimension.{listed}
 use Rattle.row.specs.Row.{tab}
 use Rattle.tableau.specs.Tableau.{sized}
@@ -7,16 +7,14 @@ use Rattle.operation.specs.declared.Operation.{Operation}
 use Rattle.operation.specs.declared.Operation.TheVariants.{Swap}
 use Rattle.operation.specs.declared.WeylError.{WeylError}
 use Rattle.circuit.specs.Circuit.{measured, chosen, Accepted}
-use Rattle.book_entries.specs.declared.Decoded.{Decoded}
-use Rattle.book_entries.specs.declared.Decoded.TheVariants.{Good, Bad}
 use Rattle.book_entries.specs.Entry.{operation_at, error_at}
 use Rattle.book_body.specs.Body.{measurements, choice_takers, accepted}
 use Rattle.book.specs.Book.{read_book, dimension_of, qudits_of, body_of}
 
 -- the operation of an entry; for a bad one, one that is never allowed
-abbrev pub operation_in : Decoded → Operation
-operation_in (Good op) = op
-operation_in Bad = Swap 0 0
+abbrev pub operation_in : Option Operation → Operation
+operation_in (Some op) = op
+operation_in None = Swap 0 0
 
 abbrev pub operation_of : ℕ → ℕ → List ℕ → ℕ → Operation
 operation_of d n ops k = operation_in (operation_at d n ops k)

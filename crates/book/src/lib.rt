@@ -1,14 +1,16 @@
 // The reader of shot books: a book's refusal by 1 to 7, or its numbers; and its bodies by kind.
 #![tactic(auto)]
 
+mod bodies;
+
 ghost use Rattle.std.specs.Prelude.{◌≡◌, ◌+◌, ◌*◌, ◌<◌, ◌≤◌, length};
 ghost use Rattle.book_body.specs.Body.{answer_of, measured_of, measured_by};
 ghost use Rattle.book.specs.Book.{header_fits, operations_entry, errors_entry, choices_entry, end_of, part_of, entry_fits, bad_contents, read_book, body_of};
 
-use book_body::{Reading, length_fits, read_bodies};
+use answer::Refusal;
+pub use bodies::Circuit;
+use book_body::{Numbers, length_fits, read_bodies};
 use book_entries::word;
-use casts::byte_as_usize;
-use search::Place;
 
 // The byte at which each entry of the table of contents begins.
 const OPERATIONS_ENTRY: usize = 4;
@@ -49,12 +51,12 @@ fn entry_fits(book: &[u8], at: usize, kind: u8, start: usize, size: usize, most:
 }
 
 // 4: the first wrong entry of the table of contents; 3 if only the end is wrong.
-fn bad_contents(book: &[u8]) -> Place
+fn bad_contents(book: &[u8]) -> Option<usize>
     requires { 22 ≤ length book.now }
     ensures { result ≡ bad_contents book.now }
 {
     if !entry_fits(book, OPERATIONS_ENTRY, 1, 22, 4, 4096) {
-        return Place::At(0);
+        return Some(0);
     }
     if !entry_fits(
         book,
@@ -64,15 +66,15 @@ fn bad_contents(book: &[u8]) -> Place
         5,
         2048,
     ) {
-        return Place::At(1);
+        return Some(1);
     }
     if !entry_fits(book, CHOICES_ENTRY, 3, end_of(book, ERRORS_ENTRY), 1, 4096) {
-        return Place::At(2);
+        return Some(2);
     }
     if end_of(book, CHOICES_ENTRY) != book.len() {
-        return Place::At(3);
+        return Some(3);
     }
-    Place::Nowhere
+    None
 }
 
 // The body whose contents entry begins at byte `at`.
@@ -112,43 +114,37 @@ pub fn choices(book: &[u8]) -> &[u8]
 }
 
 // A book's refusal by 1 to 7, or its numbers.
-pub fn read(book: &[u8]) -> Reading
-    ensures { (answer_of result ≡ read_book book.now)
-        × (measured_of result ≡ measured_by (part_of book.now operations_entry) (answer_of result)) }
+#[tactic(auto, unfolding(crate::specs::Book::read_book))]
+pub fn read(book: &[u8]) -> Result<Numbers, Refusal>
+    ensures answer { answer_of result ≡ read_book book.now }
+    ensures measured { measured_of result
+        ≡ measured_by (part_of book.now operations_entry) (answer_of result) }
 {
     if !header_fits(book) {
-        return Reading::Refused {
-            number: 1,
-            place: 0,
-        };
+        return Err(Refusal::Header);
     }
     let d = book[1];
-    let n = byte_as_usize(book[2]);
-    if !modular::is_listed(byte_as_usize(d)) {
-        return Reading::Refused {
-            number: 2,
-            place: 0,
-        };
+    let n = usize::from(book[2]);
+    if !modular::is_listed(usize::from(d)) {
+        return Err(Refusal::Dimension);
     }
     if !tableau::is_sized(n) {
-        return Reading::Refused {
-            number: 3,
-            place: 0,
-        };
+        return Err(Refusal::Qudits);
     }
-    if let Place::At(place) = bad_contents(book) {
-        return Reading::Refused { number: 4, place };
+    if let Some(entry) = bad_contents(book) {
+        return Err(Refusal::Contents(entry));
     }
     read_bodies(operations(book), errors(book), choices(book), d, n)
 }
 
 // The body of a kind, as a part of the book; of a refused book or another kind, a part of length 0.
+#[tactic(auto, unfolding(crate::specs::Book::body_of))]
 pub fn body(book: &[u8], kind: usize) -> &[u8]
     ensures { result.now ≡ body_of book.now kind }
 {
-    let Reading::Accepted(_) = read(book) else {
+    if read(book).is_err() {
         return &book[..0];
-    };
+    }
     match kind {
         1 => operations(book),
         2 => errors(book),

@@ -1,31 +1,31 @@
 -- Bodies that must be judged so: antt computes each.
 -- Assumes nothing.
+use Rattle.std.proofs.Common.{Some, None}
 use mathlib.Core.Path.{◌≡◌, refl}
 use mathlib.Core.List.{List, [], ◌∷◌}
 use Prim.Native.Nat.{ℕ}
-use Rattle.search.specs.declared.Place.TheVariants.{At, Nowhere}
 use Rattle.search.specs.Search.{first_not}
 use Rattle.book_entries.specs.Entry.{decoded, error_at}
 use Rattle.book_body.specs.Body.{bad_operation, measurements, choice_takers, good_error, bad_error, bad_choice, refused, accepted, read_bodies}
 
 -- the first bad one, and not the last
-pub first-bad : bad_operation 3 2 (0 ∷ 2 ∷ 0 ∷ 0 ∷ 9 ∷ 0 ∷ 0 ∷ 0 ∷ []) ≡ At 0
+pub first-bad : bad_operation 3 2 (0 ∷ 2 ∷ 0 ∷ 0 ∷ 9 ∷ 0 ∷ 0 ∷ 0 ∷ []) ≡ Some 0
 unfolding first_not decoded measurements bad_operation
 first-bad = refl
 
 -- With one operation, place 1 is after all and place 2 too high; a place may stay and not fall.
 pub places :
-    (bad_error 3 2 1 (1 ∷ 0 ∷ 0 ∷ 0 ∷ 0 ∷ 1 ∷ 0 ∷ 1 ∷ 2 ∷ 2 ∷ []) ≡ Nowhere) × (bad_error 3 2 1 (2 ∷ 0 ∷ 0 ∷ 0 ∷ 0 ∷ []) ≡ At 0)
-    × (bad_error 3 2 1 (1 ∷ 0 ∷ 0 ∷ 0 ∷ 0 ∷ 0 ∷ 0 ∷ 0 ∷ 0 ∷ 0 ∷ []) ≡ At 1)
-    × (bad_error 3 2 1 (0 ∷ 0 ∷ 2 ∷ 0 ∷ 0 ∷ []) ≡ At 0) × (bad_error 3 2 1 (0 ∷ 0 ∷ 0 ∷ 3 ∷ 0 ∷ []) ≡ At 0)
-    × (bad_error 3 2 1 (0 ∷ 0 ∷ 0 ∷ 0 ∷ 3 ∷ []) ≡ At 0)
+    (bad_error 3 2 1 (1 ∷ 0 ∷ 0 ∷ 0 ∷ 0 ∷ 1 ∷ 0 ∷ 1 ∷ 2 ∷ 2 ∷ []) ≡ None) × (bad_error 3 2 1 (2 ∷ 0 ∷ 0 ∷ 0 ∷ 0 ∷ []) ≡ Some 0)
+    × (bad_error 3 2 1 (1 ∷ 0 ∷ 0 ∷ 0 ∷ 0 ∷ 0 ∷ 0 ∷ 0 ∷ 0 ∷ 0 ∷ []) ≡ Some 1)
+    × (bad_error 3 2 1 (0 ∷ 0 ∷ 2 ∷ 0 ∷ 0 ∷ []) ≡ Some 0) × (bad_error 3 2 1 (0 ∷ 0 ∷ 0 ∷ 3 ∷ 0 ∷ []) ≡ Some 0)
+    × (bad_error 3 2 1 (0 ∷ 0 ∷ 0 ∷ 0 ∷ 3 ∷ []) ≡ Some 0)
 unfolding first_not error_at good_error bad_error
 places = (refl, refl, refl, refl, refl, refl)
 
 -- The smaller count comes before a bad value; a choice is below d.
 pub choices :
-    (bad_choice 3 2 (7 ∷ []) ≡ At 1) × (bad_choice 3 1 (7 ∷ 0 ∷ []) ≡ At 1)
-    × (bad_choice 3 2 (2 ∷ 3 ∷ []) ≡ At 1) × (bad_choice 3 1 (2 ∷ []) ≡ Nowhere)
+    (bad_choice 3 2 (7 ∷ []) ≡ Some 1) × (bad_choice 3 1 (7 ∷ 0 ∷ []) ≡ Some 1)
+    × (bad_choice 3 2 (2 ∷ 3 ∷ []) ≡ Some 1) × (bad_choice 3 1 (2 ∷ []) ≡ None)
 unfolding first_not bad_choice
 choices = (refl, refl, refl, refl)
 
@@ -39,10 +39,10 @@ order = (refl, refl, refl, refl)
 
 -- A correction names an earlier measurement, and neither one that comes later nor a reset; its number is of two bytes, low first.
 pub names :
-    (bad_operation 3 2 (6 ∷ 0 ∷ 0 ∷ 0 ∷ 8 ∷ 1 ∷ 0 ∷ 0 ∷ []) ≡ Nowhere) × (bad_operation 3 2 (8 ∷ 1 ∷ 0 ∷ 0 ∷ 6 ∷ 0 ∷ 0 ∷ 0 ∷ []) ≡ At 0)
-    × (bad_operation 3 2 (6 ∷ 0 ∷ 0 ∷ 0 ∷ 8 ∷ 1 ∷ 1 ∷ 0 ∷ 6 ∷ 0 ∷ 0 ∷ 0 ∷ []) ≡ At 1)
-    × (bad_operation 3 2 (7 ∷ 0 ∷ 0 ∷ 0 ∷ 8 ∷ 1 ∷ 0 ∷ 0 ∷ []) ≡ At 1) × (bad_operation 3 2 (6 ∷ 0 ∷ 0 ∷ 0 ∷ 8 ∷ 1 ∷ 0 ∷ 1 ∷ []) ≡ At 1)
-    × (bad_operation 3 2 (6 ∷ 0 ∷ 0 ∷ 0 ∷ 6 ∷ 0 ∷ 0 ∷ 0 ∷ 8 ∷ 1 ∷ 1 ∷ 0 ∷ []) ≡ Nowhere)
+    (bad_operation 3 2 (6 ∷ 0 ∷ 0 ∷ 0 ∷ 8 ∷ 1 ∷ 0 ∷ 0 ∷ []) ≡ None) × (bad_operation 3 2 (8 ∷ 1 ∷ 0 ∷ 0 ∷ 6 ∷ 0 ∷ 0 ∷ 0 ∷ []) ≡ Some 0)
+    × (bad_operation 3 2 (6 ∷ 0 ∷ 0 ∷ 0 ∷ 8 ∷ 1 ∷ 1 ∷ 0 ∷ 6 ∷ 0 ∷ 0 ∷ 0 ∷ []) ≡ Some 1)
+    × (bad_operation 3 2 (7 ∷ 0 ∷ 0 ∷ 0 ∷ 8 ∷ 1 ∷ 0 ∷ 0 ∷ []) ≡ Some 1) × (bad_operation 3 2 (6 ∷ 0 ∷ 0 ∷ 0 ∷ 8 ∷ 1 ∷ 0 ∷ 1 ∷ []) ≡ Some 1)
+    × (bad_operation 3 2 (6 ∷ 0 ∷ 0 ∷ 0 ∷ 6 ∷ 0 ∷ 0 ∷ 0 ∷ 8 ∷ 1 ∷ 1 ∷ 0 ∷ []) ≡ None)
 unfolding first_not decoded measurements bad_operation
 names = (refl, refl, refl, refl, refl, refl)
 

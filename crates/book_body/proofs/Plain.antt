@@ -1,5 +1,6 @@
 -- A body of gates and measurements alone has nothing bad, and takes a choice for each measurement.
 -- Assumes nothing.
+use Rattle.std.proofs.Common.{None}
 use mathlib.Core.Path.{◌≡◌, refl, ap, ◌∙◌}
 use mathlib.Core.Bool.{Bool, true, or-false}
 use mathlib.Core.List.{List}
@@ -8,7 +9,6 @@ use native.Mathlib.Omega.{arith}
 use lib.ListN.{length, get_or}
 use borrow.Author.Tests.{ne_eqb}
 use Rattle.operation.specs.Operation.{named}
-use Rattle.search.specs.declared.Place.TheVariants.{Nowhere}
 use Rattle.search.proofs.Search.{all-at, none_fails}
 use Rattle.book_entries.specs.Entry.{good_if, coded}
 use Rattle.book_entries.specs.Fits.{plain_at}
@@ -38,7 +38,7 @@ module _ (d n : ℕ) (ops : List ℕ) where
       ap (is_good (measurements ops k)) (by_fits d n b1 b2 b3 b0 ∙ ap (λ (t : Bool). good_if t (coded b0 b1 b2 b3)) fit.0)
       ∙ names-none b0 b1 b2 b3 (measurements ops k) fit.1
 
-  pub nothing_bad : all_plain d n ops ≡ true → bad_operation d n ops ≡ Nowhere
+  pub nothing_bad : all_plain d n ops ≡ true → bad_operation d n ops ≡ None
   unfolding bad_operation
   nothing_bad h = none_fails (good_operation d n ops) (length ops / 4) (λ k l. plain-good k (all-at (plain_at d n ops) (length ops / 4) h k l))
 

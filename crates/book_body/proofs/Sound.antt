@@ -1,5 +1,6 @@
 -- What three accepted bodies have passed.
 -- Assumes nothing.
+use Rattle.std.proofs.Common.{Option, Some, None}
 use mathlib.Core.Path.{◌≡◌, refl}
 use mathlib.Core.Logic.{◌≢◌}
 use mathlib.Core.Bool.{true}
@@ -9,8 +10,6 @@ use native.Mathlib.Omega.{arith}
 use lib.Dec.{eqb}
 use lib.ListN.{length}
 use borrow.Author.Tests.{eqb-true}
-use Rattle.search.specs.declared.Place.{Place}
-use Rattle.search.specs.declared.Place.TheVariants.{At, Nowhere}
 use Rattle.book_body.specs.Body.{good_operation, bad_operation, choice_takers, bad_error, good_choice, bad_choice, ReaderAnswer, refused, accepted, refuse_at, read_bodies}
 use Rattle.search.proofs.Search.{met, some-place, all-good}
 
@@ -21,14 +20,14 @@ NoRefusal t = (number place : ℕ) → refused number place ≢ t
 pub no_refusal : (d n operations errors choices : ℕ) → NoRefusal (accepted d n operations errors choices)
 no_refusal d n operations errors choices number place e = let z : ◌≡◌ {A = ℕ} 0 1 = cc in omega arith
 
-pub nowhere : {t : ReaderAnswer} (number : ℕ) (p : Place) (rest : ReaderAnswer) → NoRefusal t → refuse_at number p rest ≡ t → (p ≡ Nowhere) × (rest ≡ t)
-nowhere number (At place) rest good e = absurd (good number place e)
-nowhere number Nowhere rest good e = (refl, e)
+pub nowhere : {t : ReaderAnswer} (number : ℕ) (p : Option ℕ) (rest : ReaderAnswer) → NoRefusal t → refuse_at number p rest ≡ t → (p ≡ None) × (rest ≡ t)
+nowhere number (Some place) rest good e = absurd (good number place e)
+nowhere number None rest good e = (refl, e)
 
 pub record Sound (d n : ℕ) (os es cs : List ℕ) (t : ReaderAnswer) : Type 0 where
-  pub operations : bad_operation d n os ≡ Nowhere
-  pub errors : bad_error d n (length os / 4) es ≡ Nowhere
-  pub choices : bad_choice d (choice_takers os (length os / 4)) cs ≡ Nowhere
+  pub operations : bad_operation d n os ≡ None
+  pub errors : bad_error d n (length os / 4) es ≡ None
+  pub choices : bad_choice d (choice_takers os (length os / 4)) cs ≡ None
   pub numbers : accepted d n (length os / 4) (length es / 5) (length cs) ≡ t
 
 pub all_sound : {t : ReaderAnswer} (d n : ℕ) (os es cs : List ℕ) → NoRefusal t → read_bodies d n os es cs ≡ t → Sound d n os es cs t

@@ -1,14 +1,12 @@
 -- The three bodies: refusals 5, 6 and 7.
-use Rattle.std.specs.Prelude.{Bool, false, cond, ◌&&◌, ◌||◌, List, ℕ, zero, suc, ◌+◌, ◌*◌, ◌/◌, ◌%◌, eqb, leb, ltb, length, get_or}
+use Rattle.std.specs.Prelude.{Bool, false, cond, ◌&&◌, ◌||◌, List, ℕ, zero, suc, ◌+◌, ◌*◌, ◌/◌, ◌%◌, eqb, leb, ltb, length, get_or, Option, Some, None, Result, Ok, Err}
 use Rattle.operation.specs.declared.WeylError.{WeylError}
 use Rattle.operation.specs.Operation.{named}
 use Rattle.operation.specs.Error.{error_allowed}
-use Rattle.search.specs.declared.Place.{Place}
-use Rattle.search.specs.declared.Place.TheVariants.{At, Nowhere}
-use Rattle.book_entries.specs.declared.Decoded.{Decoded}
-use Rattle.book_entries.specs.declared.Decoded.TheVariants.{Good, Bad}
-use Rattle.book_body.specs.declared.Reading.{Reading}
-use Rattle.book_body.specs.declared.Reading.TheVariants.{Accepted, Refused}
+use Rattle.operation.specs.declared.Operation.{Operation}
+use Rattle.answer.specs.declared.Refusal.{Refusal}
+use Rattle.answer.specs.Refusal.{number_of, place_of}
+use Rattle.book_body.specs.declared.Numbers.{Numbers}
 use Rattle.search.specs.Search.{unless, all, first_not}
 use Rattle.book_entries.specs.Entry.{operation_at, error_at}
 use Rattle.book_entries.specs.Fits.{plain_at}
@@ -29,9 +27,9 @@ choice_takers ops (suc k) = choice_takers ops k + cond (eqb (get_or ops (4 * k) 
 
 -- 5: first bad operation. An entry that isn't one of the nine operations ends the reading there, and so does a correction whose named
 -- measurement does not come earlier in the book.
-abbrev pub is_good : (earlier : ℕ) → Decoded → Bool
-is_good earlier (Good op) = named earlier op
-is_good earlier Bad = false
+abbrev pub is_good : (earlier : ℕ) → Option Operation → Bool
+is_good earlier (Some op) = named earlier op
+is_good earlier None = false
 
 abbrev pub good_operation : ℕ → ℕ → List ℕ → ℕ → Bool
 good_operation d n ops k = is_good (measurements ops k) (operation_at d n ops k)
@@ -40,7 +38,7 @@ good_operation d n ops k = is_good (measurements ops k) (operation_at d n ops k)
 abbrev pub all_plain : ℕ → ℕ → List ℕ → Bool
 all_plain d n ops = all (plain_at d n ops) (length ops / 4)
 
-unfoldable pub bad_operation : ℕ → ℕ → List ℕ → Place
+unfoldable pub bad_operation : ℕ → ℕ → List ℕ → Option ℕ
 bad_operation d n ops = first_not (good_operation d n ops) (length ops / 4)
 
 -- 6: first bad error: place too high or falling, qudit not below n, p or s not below d. The first has nothing to fall from.
@@ -54,7 +52,7 @@ error_fits d n count last e = leb e.place count && (leb last e.place && error_al
 unfoldable pub good_error : ℕ → ℕ → ℕ → List ℕ → ℕ → Bool
 good_error d n count errors k = error_fits d n count (place_before errors k) (error_at errors k)
 
-unfoldable pub bad_error : ℕ → ℕ → ℕ → List ℕ → Place
+unfoldable pub bad_error : ℕ → ℕ → ℕ → List ℕ → Option ℕ
 bad_error d n count errors = first_not (good_error d n count errors) (length errors / 5)
 
 -- 7: the smaller count where choices and those that take one differ in number; else first choice not below d
@@ -64,9 +62,9 @@ smaller a b = cond (ltb a b) a b
 abbrev pub good_choice : ℕ → List ℕ → ℕ → Bool
 good_choice d choices k = ltb (get_or choices k 0) d
 
-unfoldable pub bad_choice : ℕ → ℕ → List ℕ → Place
+unfoldable pub bad_choice : ℕ → ℕ → List ℕ → Option ℕ
 bad_choice d taken choices =
-    unless (eqb (length choices) taken) (At (smaller (length choices) taken))
+    unless (eqb (length choices) taken) (Some (smaller (length choices) taken))
     (first_not (good_choice d choices) (length choices))
 
 -- The reader's answer: the number and place of a book's refusal, or its own numbers.
@@ -74,9 +72,9 @@ pub data ReaderAnswer : Type 0 where
   refused : (number place : ℕ) → ReaderAnswer
   accepted : (d n operations errors choices : ℕ) → ReaderAnswer
 
-abbrev pub refuse_at : ℕ → Place → ReaderAnswer → ReaderAnswer
-refuse_at number (At place) rest = refused number place
-refuse_at number Nowhere rest = rest
+abbrev pub refuse_at : ℕ → Option ℕ → ReaderAnswer → ReaderAnswer
+refuse_at number (Some place) rest = refused number place
+refuse_at number None rest = rest
 
 unfoldable pub read_bodies : ℕ → ℕ → List ℕ → List ℕ → List ℕ → ReaderAnswer
 read_bodies d n ops errors choices =
@@ -86,14 +84,14 @@ read_bodies d n ops errors choices =
     (accepted d n (length ops / 4) (length errors / 5) (length choices))))
 
 -- the numbers that the reader's answer stands for
-abbrev pub answer_of : Reading → ReaderAnswer
-answer_of (Refused number place) = refused number place
-answer_of (Accepted b) = accepted b.d b.n b.operations b.errors b.choices
+abbrev pub answer_of : Result Numbers Refusal → ReaderAnswer
+answer_of (Err r) = refused (number_of r) (place_of r)
+answer_of (Ok b) = accepted b.d b.n b.operations b.errors b.choices
 
 -- how many of the operations of an accepted book are measurements: what it gives besides, so that a run need not count them
-abbrev pub measured_of : Reading → ℕ
-measured_of (Refused number place) = 0
-measured_of (Accepted b) = b.measurements
+abbrev pub measured_of : Result Numbers Refusal → ℕ
+measured_of (Err r) = 0
+measured_of (Ok b) = b.measurements
 
 abbrev pub measured_by : List ℕ → ReaderAnswer → ℕ
 measured_by ops (refused number place) = 0

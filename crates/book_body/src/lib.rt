@@ -5,12 +5,12 @@ ghost use Rattle.std.specs.Prelude.{◌≡◌, ◌*◌, ◌/◌, ◌<◌, length
 ghost use Rattle.operation.specs.Operation.{named};
 ghost use Rattle.book_body.specs.Body.{length_fits, all_plain, bad_operation, measurements, choice_takers, error_fits, bad_error, smaller, bad_choice, read_bodies, answer_of, measured_of, measured_by};
 
-use book_entries::Decoded;
+use answer::Refusal;
+use book_entries::Entry;
 use operation::{Operation, WeylError};
-use search::Place;
 
 // The numbers of an accepted book.
-#[derive(Clone, Copy)]
+#[derive(Clone, Copy, Debug, PartialEq, Eq)]
 pub struct Numbers {
     pub d: u8,
     pub n: usize,
@@ -18,13 +18,6 @@ pub struct Numbers {
     pub errors: usize,
     pub choices: usize,
     pub measurements: usize,
-}
-
-// The reader's answer.
-#[derive(Clone, Copy)]
-pub enum Reading {
-    Accepted(Numbers),
-    Refused { number: u8, place: usize },
 }
 
 // A number of bytes that is whole entries of `size` bytes, at most `most` of them.
@@ -41,23 +34,8 @@ fn names_earlier(operation: Operation, earlier: usize) -> bool
     ensures { result ≡ named earlier operation }
 {
     match operation {
-        Operation::Fourier { q: _, times: _ } => true,
-        Operation::PhaseGate { q: _, times: _ } => true,
-        Operation::Sum {
-            c: _,
-            t: _,
-            times: _,
-        } => true,
-        Operation::Cz {
-            c: _,
-            t: _,
-            times: _,
-        } => true,
-        Operation::Swap { c: _, t: _ } => true,
-        Operation::Multiplier { q: _, u: _ } => true,
-        Operation::Measure { q: _ } => true,
-        Operation::Reset { q: _ } => true,
-        Operation::Correct { t: _, m } => m < earlier,
+        Operation::Correct { m, .. } => m < earlier,
+        _ => true,
     }
 }
 
@@ -65,44 +43,34 @@ fn names_earlier(operation: Operation, earlier: usize) -> bool
 fn all_plain(ops: &[u8], d: u8, n: usize) -> bool
     ensures { result ≡ all_plain d n ops.now }
 {
-    let count = ops.len() / 4;
-    let mut k = 0;
-    while k < count {
-        if !book_entries::plain_at(ops, k, d, n) {
-            return false;
-        }
-        k += 1;
-    }
-    true
+    (0..ops.len() / 4).all(|k| Entry::at(ops, k).is_plain(d, n))
 }
 
 // The first bad operation of any body.
-fn bad_among(ops: &[u8], d: u8, n: usize) -> Place
+fn bad_among(ops: &[u8], d: u8, n: usize) -> Option<usize>
     ensures { result ≡ bad_operation d n ops.now }
 {
-    let count = ops.len() / 4;
     let mut earlier = 0;
-    let mut k = 0;
-    while k < count {
-        let Decoded::Good(operation) = book_entries::operation_at(ops, k, d, n) else {
-            return Place::At(k);
+    for k in 0..ops.len() / 4 {
+        let entry = Entry::at(ops, k);
+        let Some(operation) = entry.decoded(d, n) else {
+            return Some(k);
         };
         if !names_earlier(operation, earlier) {
-            return Place::At(k);
+            return Some(k);
         }
-        earlier += search::one_if(ops[4 * k] == 6);
-        k += 1;
+        earlier += usize::from(entry.code == 6);
     }
-    Place::Nowhere
+    None
 }
 
 // 5: the first bad operation. (Asked of each entry, its name would cost books without corrections a fifth of the reading.)
-fn bad_operation(ops: &[u8], plain: bool, d: u8, n: usize) -> Place
+fn bad_operation(ops: &[u8], plain: bool, d: u8, n: usize) -> Option<usize>
     requires { plain ≡ all_plain d n ops.now }
     ensures { result ≡ bad_operation d n ops.now }
 {
     if plain {
-        return Place::Nowhere;
+        return None;
     }
     bad_among(ops, d, n)
 }
@@ -111,29 +79,18 @@ fn bad_operation(ops: &[u8], plain: bool, d: u8, n: usize) -> Place
 fn measurements(ops: &[u8]) -> usize
     ensures { result ≡ measurements ops.now (length ops.now / 4) }
 {
-    let count = ops.len() / 4;
-    let mut sum = 0;
-    let mut k = 0;
-    while k < count {
-        sum += search::one_if(ops[4 * k] == 6);
-        k += 1;
-    }
-    sum
+    (0..ops.len() / 4)
+        .filter(|k| Entry::at(ops, *k).code == 6)
+        .count()
 }
 
 // How many of the operations are measurements or resets.
 fn choice_takers(ops: &[u8]) -> usize
     ensures { result ≡ choice_takers ops.now (length ops.now / 4) }
 {
-    let count = ops.len() / 4;
-    let mut sum = 0;
-    let mut k = 0;
-    while k < count {
-        let code = ops[4 * k];
-        sum += search::one_if((code == 6) | (code == 7));
-        k += 1;
-    }
-    sum
+    (0..ops.len() / 4)
+        .filter(|k| matches!(Entry::at(ops, *k).code, 6 | 7))
+        .count()
 }
 
 // How many choices the operations take, so many of them being measurements.
@@ -155,72 +112,62 @@ fn error_fits(d: u8, n: usize, count: usize, last: usize, e: WeylError) -> bool
 }
 
 // 6: the first bad error of a book with `count` operations.
-pub fn bad_error(errors: &[u8], count: usize, d: u8, n: usize) -> Place
+pub fn bad_error(errors: &[u8], count: usize, d: u8, n: usize) -> Option<usize>
     ensures { result ≡ bad_error d n count errors.now }
 {
-    let end = errors.len() / 5;
     let mut last = 0;
-    let mut k = 0;
-    while k < end {
+    for k in 0..errors.len() / 5 {
         let e = book_entries::error_at(errors, k);
         if !error_fits(d, n, count, last, e) {
-            return Place::At(k);
+            return Some(k);
         }
         last = e.place;
-        k += 1;
     }
-    Place::Nowhere
-}
-
-fn smaller(a: usize, b: usize) -> usize
-    ensures { result ≡ smaller a b }
-{
-    if a < b { a } else { b }
+    None
 }
 
 // 7: the smaller count where choices and those that take one differ in number; else the first choice not below d.
-pub fn bad_choice(choices: &[u8], taken: usize, d: u8) -> Place
+pub fn bad_choice(choices: &[u8], taken: usize, d: u8) -> Option<usize>
     ensures { result ≡ bad_choice d taken choices.now }
 {
     let count = choices.len();
     if count != taken {
-        return Place::At(smaller(count, taken));
+        return Some(count.min(taken));
     }
-    let mut k = 0;
-    while k < count {
-        if choices[k] >= d {
-            return Place::At(k);
-        }
-        k += 1;
-    }
-    Place::Nowhere
+    choices.iter().position(|choice| *choice >= d)
 }
 
 // 5, 6 and 7 of three bodies, or their numbers.
-pub fn read_bodies(ops: &[u8], errors: &[u8], choices: &[u8], d: u8, n: usize) -> Reading
-    ensures { (answer_of result ≡ read_bodies d n ops.now errors.now choices.now)
-        × (measured_of result ≡ measured_by ops.now (answer_of result)) }
+#[tactic(auto, unfolding(crate::specs::Body::read_bodies))]
+pub fn read_bodies(
+    ops: &[u8],
+    errors: &[u8],
+    choices: &[u8],
+    d: u8,
+    n: usize,
+) -> Result<Numbers, Refusal>
+    ensures answer { answer_of result ≡ read_bodies d n ops.now errors.now choices.now }
+    ensures measured { measured_of result ≡ measured_by ops.now (answer_of result) }
 {
     let plain = all_plain(ops, d, n);
-    if let Place::At(place) = bad_operation(ops, plain, d, n) {
-        return Reading::Refused { number: 5, place };
+    if let Some(index) = bad_operation(ops, plain, d, n) {
+        return Err(Refusal::Operation(index));
     }
     let operations = ops.len() / 4;
-    if let Place::At(place) = bad_error(errors, operations, d, n) {
-        return Reading::Refused { number: 6, place };
+    if let Some(index) = bad_error(errors, operations, d, n) {
+        return Err(Refusal::Error(index));
     }
     let measurements = measurements(ops);
     let taken = choices_taken(ops, plain, measurements, d, n);
-    if let Place::At(place) = bad_choice(choices, taken, d) {
-        return Reading::Refused { number: 7, place };
+    if let Some(index) = bad_choice(choices, taken, d) {
+        return Err(Refusal::Choice(index));
     }
-    let numbers = Numbers {
+    Ok(Numbers {
         d,
         n,
         operations,
         errors: errors.len() / 5,
         choices: choices.len(),
         measurements,
-    };
-    Reading::Accepted(numbers)
+    })
 }

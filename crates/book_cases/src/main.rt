@@ -3,87 +3,83 @@
 
 ghost use Rattle.std.specs.Prelude.{◌<◌};
 
-use book_body::Reading;
+use book_body::Numbers;
+use std::io;
 
 // d 3, n 2; Fourier on 0, SUM from 0 to 1, a measurement of each; an error at place 2; two choices.
-fn example() -> [u8; 45] {
-    *b"\x51\x03\x02\x03\x01\x00\x16\x00\x10\x00\x02\x00\x26\x00\x05\x00\x03\x00\x2B\x00\x02\x00\x00\x00\x00\x00\x02\x00\x01\x00\x06\x00\x00\x00\x06\x01\x00\x00\x02\x00\x01\x01\x00\x02\x00"
-}
+const EXAMPLE: [u8; 45] =
+    *b"\x51\x03\x02\x03\x01\x00\x16\x00\x10\x00\x02\x00\x26\x00\x05\x00\x03\x00\x2B\x00\x02\x00\x00\x00\x00\x00\x02\x00\x01\x00\x06\x00\x00\x00\x06\x01\x00\x00\x02\x00\x01\x01\x00\x02\x00";
 
-fn write(words: &[u8], number: usize) {
-    io::write_all(1, words);
-    io::print_decimal(1, number as u64);
-}
-
-fn report(book: &[u8]) {
-    let reading = book::read(book);
-    match reading {
-        Reading::Accepted(numbers) => {
-            write(b"d ", casts::byte_as_usize(numbers.d));
-            write(b" n ", numbers.n);
-            write(b" operations ", numbers.operations);
-            write(b" errors ", numbers.errors);
+fn report(rt: &impl Print, book: &[u8]) -> io::Result<()> {
+    match book::read(book) {
+        Ok(numbers) => {
+            let Numbers {
+                d,
+                n,
+                operations,
+                errors,
+                ..
+            } = numbers;
+            println!(rt; "d {d} n {n} operations {operations} errors {errors}")
         }
-        Reading::Refused { number, place } => {
-            write(b"refused ", casts::byte_as_usize(number));
-            write(b" at ", place);
-        }
+        Err(refusal) => rt.println(refusal),
     }
-    io::write_all(1, b"\n");
 }
 
 // The example with another byte at `at`.
-fn changed(at: usize, byte: u8)
+fn changed(rt: &impl Print, at: usize, byte: u8) -> io::Result<()>
     requires { at < 45 }
 {
-    let mut book = example();
+    let mut book = EXAMPLE;
     book[at] = byte;
-    report(&book);
+    report(rt, &book)
 }
 
 // Dimensions and numbers of qudits, allowed and not, and headers.
-fn headers() {
-    changed(1, 31);
-    changed(1, 9);
-    changed(1, 37);
-    changed(2, 64);
-    changed(2, 0);
-    changed(2, 65);
-    report(b"");
-    changed(0, 80);
-    changed(3, 2);
+fn headers(rt: &impl Print) -> io::Result<()> {
+    changed(rt, 1, 31)?;
+    changed(rt, 1, 9)?;
+    changed(rt, 1, 37)?;
+    changed(rt, 2, 64)?;
+    changed(rt, 2, 0)?;
+    changed(rt, 2, 65)?;
+    report(rt, b"")?;
+    changed(rt, 0, 80)?;
+    changed(rt, 3, 2)
 }
 
 // Kind, zero byte, offset and length; then the end alone.
-fn contents() {
-    changed(4, 2);
-    changed(11, 1);
-    changed(18, 44);
-    changed(8, 15);
-    changed(20, 3);
+fn contents(rt: &impl Print) -> io::Result<()> {
+    changed(rt, 4, 2)?;
+    changed(rt, 11, 1)?;
+    changed(rt, 18, 44)?;
+    changed(rt, 8, 15)?;
+    changed(rt, 20, 3)
 }
 
-fn bodies() {
+fn bodies(rt: &impl Print) -> io::Result<()> {
     // SUM of a qudit with itself; no such code
-    changed(28, 0);
-    changed(34, 9);
+    changed(rt, 28, 0)?;
+    changed(rt, 34, 9)?;
     // a place too high; a place that falls, in a book of two errors
-    changed(38, 5);
+    changed(rt, 38, 5)?;
     report(
+        rt,
         b"\x51\x03\x01\x03\x01\x00\x16\x00\x04\x00\x02\x00\x1A\x00\x0A\x00\x03\x00\x24\x00\x00\x00\x00\x00\x00\x00\x01\x00\x00\x01\x00\x00\x00\x00\x01\x00",
-    );
+    )?;
     // one measurement for two choices; a choice of d
-    changed(34, 0);
-    changed(43, 3);
+    changed(rt, 34, 0)?;
+    changed(rt, 43, 3)
 }
 
-fn main() {
-    report(&example());
+fn main(rt: HostRuntime) -> io::Result<()> {
+    report(&rt, &EXAMPLE)?;
     // no operations and no errors
     report(
+        &rt,
         b"\x51\x03\x02\x03\x01\x00\x16\x00\x00\x00\x02\x00\x16\x00\x00\x00\x03\x00\x16\x00\x00\x00",
-    );
-    headers();
-    contents();
-    bodies();
+    )?;
+    headers(&rt)?;
+    contents(&rt)?;
+    bodies(&rt)
 }

@@ -1,5 +1,6 @@
 -- An entry is an operation exactly if its bytes are that operation's, with the operands in range.
 -- Assumes nothing.
+use Rattle.std.proofs.Common.{Option, Some}
 use mathlib.Core.Path.{◌≡◌, refl, ap, ◌∙◌}
 use mathlib.Core.Bool.{Bool, true, false, cond, not, ◌&&◌, and-eq-true_iff}
 use mathlib.Core.List.{List, [], ◌∷◌}
@@ -12,8 +13,6 @@ use Rattle.operation.specs.declared.Operation.{Operation}
 use Rattle.operation.specs.declared.Operation.TheVariants.{Fourier, PhaseGate, Sum, Cz, Swap, Multiplier, Measure, Reset, Correct}
 use Rattle.operation.specs.Operation.{allowed}
 use Rattle.operation.proofs.Operands.{single-facts, pair-facts}
-use Rattle.book_entries.specs.declared.Decoded.{Decoded}
-use Rattle.book_entries.specs.declared.Decoded.TheVariants.{Good}
 use Rattle.book_entries.specs.Entry.{times_in, times_byte, bytes_of, good_if, if_allowed, decoded, operation_at, DecodedExactly}
 
 -- How often a gate is applied has one spelling, and 1 is none.
@@ -34,7 +33,7 @@ read-once (suc (suc b)) h =
     rw (none, one)
 
 -- an operation's own bytes are it
-its_own : (d n : ℕ) (op : Operation) → allowed d n op ≡ true → operation_at d n (bytes_of op) 0 ≡ Good op
+its_own : (d n : ℕ) (op : Operation) → allowed d n op ≡ true → operation_at d n (bytes_of op) 0 ≡ Some op
 unfolding bytes_of decoded
 its_own d n (Fourier q k) h = let (a, b) = spelt_once k (single-facts 4 n q k h).1 in rw (a, b, h)
 its_own d n (PhaseGate q k) h = let (a, b) = spelt_once k (single-facts d n q k h).1 in rw (a, b, h)
@@ -48,11 +47,11 @@ its_own d n (Correct t m) h =
     let q : m % 256 + 256 * (m / 256) ≡ m = omega (arith, div-add-mod m 256) in
     rw (q, h, lt-ltb (m % 256) 256 (mod-lt m (omega arith)))
 
-either : (t : Bool) (x y : Decoded) (op : Operation) {A : Type 0} → (t ≡ true → x ≡ Good op → A) → (y ≡ Good op → A) → cond t x y ≡ Good op → A
+either : (t : Bool) (x y : Option Operation) (op : Operation) {A : Type 0} → (t ≡ true → x ≡ Some op → A) → (y ≡ Some op → A) → cond t x y ≡ Some op → A
 either true x y op f g e = f refl e
 either false x y op f g e = g e
 
-whole : (t : Bool) (p op : Operation) → good_if t p ≡ Good op → (t ≡ true) × (p ≡ op)
+whole : (t : Bool) (p op : Operation) → good_if t p ≡ Some op → (t ≡ true) × (p ≡ op)
 whole true p op e = (refl, cc)
 whole false p op e = (cc, cc)
 
@@ -64,9 +63,9 @@ module _ (d n b0 b1 b2 b3 : ℕ) (op : Operation) where
   Is = (allowed d n op ≡ true) × (bytes ≡ bytes_of op)
 
   -- one line of the table: the bytes are p's where the code is its code and the bytes not named are 0
-  line : (code : ℕ) (p : Operation) (unnamed : Bool) (rest : Decoded)
+  line : (code : ℕ) (p : Operation) (unnamed : Bool) (rest : Option Operation)
       → (b0 ≡ code → unnamed ≡ true → bytes ≡ bytes_of p)
-      → (rest ≡ Good op → Is) → cond (eqb b0 code) (if_allowed d n p unnamed) rest ≡ Good op → Is
+      → (rest ≡ Some op → Is) → cond (eqb b0 code) (if_allowed d n p unnamed) rest ≡ Some op → Is
   line code p unnamed rest spelt later =
       either (eqb b0 code) (if_allowed d n p unnamed) rest op
       (λ c e.
@@ -106,7 +105,7 @@ module _ (d n b0 b1 b2 b3 : ℕ) (op : Operation) where
       let q : (b2 + 256 * b3) % 256 ≡ b2 = omega (arith, e, h) in
       rw (h, q, c)
 
-  pub spelling : decoded d n b0 b1 b2 b3 ≡ Good op → Is
+  pub spelling : decoded d n b0 b1 b2 b3 ≡ Some op → Is
   unfolding decoded bytes_of
   spelling =
       line 0 (Fourier b1 (times_in b3)) _ _ (one-times 0)

@@ -1,25 +1,16 @@
 -- Four bytes are the operation of their code exactly if they fit.
 -- Assumes nothing.
 use mathlib.Core.Path.{◌≡◌, refl, sym, ap, ◌∙◌}
-use mathlib.Core.Logic.{◌≢◌}
-use mathlib.Core.Bool.{Bool, true, false, cond, not, ◌&&◌, ◌||◌, and_assoc, and_comm, or-true, or-false, and-eq-true_iff, false≢true}
-use Prim.Native.Nat.{ℕ, zero, suc, ◌+◌, ◌*◌, ◌<◌, ◌≤◌}
+use mathlib.Core.Bool.{Bool, true, false, not, ◌&&◌, ◌||◌, and_assoc, and_comm, or-false, and-eq-true_iff, false≢true}
+use Prim.Native.Nat.{ℕ, zero, suc, ◌≤◌}
 use native.Mathlib.Decide.{ℕ_discrete}
 use native.Mathlib.Omega.{arith}
 use lib.Dec.{eqb, ltb, leb}
-use borrow.Author.Tests.{ne_eqb, lt-ltb, le-ltb, le-leb, lt-leb, leb-true}
-use Rattle.operation.specs.declared.Operation.TheVariants.{Fourier, PhaseGate, Sum, Cz, Swap, Multiplier, Measure, Reset, Correct}
+use borrow.Author.Tests.{ne_eqb, le-ltb, le-leb, lt-leb, leb-true}
+use Rattle.operation.specs.declared.Operation.TheVariants.{Fourier, PhaseGate, Sum, Cz, Swap, Multiplier, Measure, Reset}
 use Rattle.operation.specs.Operation.{from_one}
 use Rattle.book_entries.specs.Entry.{times_in, good_if, decoded, coded}
-use Rattle.book_entries.specs.Fits.{last_limit, last_fits, plain_fits, fits}
-
--- a code that no other operation has
-pub coded-other : (b0 b1 b2 b3 : ℕ)
-    → (((((((Unit {0} × (b0 ≢ 0)) × (b0 ≢ 1)) × (b0 ≢ 2)) × (b0 ≢ 3)) × (b0 ≢ 4)) × (b0 ≢ 5)) × (b0 ≢ 6)) × (b0 ≢ 7)
-    → Correct b1 (b2 + 256 * b3) ≡ coded b0 b1 b2 b3
-unfolding coded
-coded-other b0 b1 b2 b3 ((((((((i, x), y), z), u), v), w), p), q) =
-    rw (ne_eqb b0 0 x, ne_eqb b0 1 y, ne_eqb b0 2 z, ne_eqb b0 3 u, ne_eqb b0 4 v, ne_eqb b0 5 w, ne_eqb b0 6 p, ne_eqb b0 7 q)
+use Rattle.book_entries.specs.Fits.{plain_fits, fits}
 
 -- tests in another order
 apart : (p a s b : Bool) → (p && a) && (s && b) ≡ p && (s && (a && b))
@@ -27,35 +18,6 @@ apart false a s b = refl
 apart true true s b = refl
 apart true false false b = refl
 apart true false true b = refl
-
--- Byte 3 where it is 0, for d above 1 and below 2, and where it is not.
-pub zero-once : (d b0 : ℕ) → 1 < d → not (eqb b0 5) ≡ last_fits d b0 0
-zero-once d b0 h = by (eqb b0 5) (eqb b0 0) (eqb b0 4 || eqb b0 6)
-  where
-    by : (factor four two : Bool) → not factor ≡ cond factor false (ltb 1 (cond four 4 (cond two 2 d)) && true)
-    by true four two = refl
-    by false true two = refl
-    by false false true = refl
-    by false false false = rw (lt-ltb 1 d h)
-
-pub zero_never : (d b0 : ℕ) → d ≤ 1 → eqb b0 0 || (eqb b0 4 || eqb b0 6) ≡ last_fits d b0 0
-zero_never d b0 h = by (ℕ_discrete b0 5)
-  where
-    limited : (four two : Bool) → four || two ≡ ltb 1 (cond four 4 (cond two 2 d)) && true
-    limited true two = refl
-    limited false true = refl
-    limited false false = rw (le-ltb 1 d h)
-
-    by : Dec (b0 ≡ 5) → eqb b0 0 || (eqb b0 4 || eqb b0 6) ≡ last_fits d b0 0
-    by (yes e) = rw e
-    by (no e) = rw (ne_eqb b0 5 e) (limited (eqb b0 0) (eqb b0 4 || eqb b0 6))
-
-pub not_zero : (d b0 b3 : ℕ) → b3 ≢ 0 → ltb b3 (last_limit d b0) && (not (eqb b3 1) || eqb b0 5) ≡ last_fits d b0 b3
-not_zero d b0 b3 h = by (ℕ_discrete b0 5)
-  where
-    by : Dec (b0 ≡ 5) → ltb b3 (last_limit d b0) && (not (eqb b3 1) || eqb b0 5) ≡ last_fits d b0 b3
-    by (yes e) = rw (e, or-true, le-leb 1 b3 (omega (arith, h))) (and_comm (ltb b3 d) true)
-    by (no e) = rw (ne_eqb b0 5 e, ne_eqb b3 0 h, or-false)
 
 -- How often, of a gate that has powers, and of an operation that has none.
 often : (m b : ℕ) → from_one m (times_in b) ≡ ltb (times_in b) m

@@ -1,11 +1,10 @@
 -- The entries of the bodies.
-use Rattle.std.specs.Prelude.{◌≡◌, ◌↔◌, Bool, true, false, cond, not, ◌&&◌, List, [], ◌∷◌, ℕ, ◌+◌, ◌*◌, ◌/◌, ◌%◌, eqb, ltb, get_or}
+use Rattle.std.specs.Prelude.{◌≡◌, ◌↔◌, Bool, true, false, cond, not, ◌&&◌, List, [], ◌∷◌, ℕ, ◌+◌, ◌*◌, ◌/◌, ◌%◌, eqb, ltb, get_or, Option, Some, None}
 use Rattle.operation.specs.declared.Operation.{Operation}
 use Rattle.operation.specs.declared.Operation.TheVariants.{Fourier, PhaseGate, Sum, Cz, Swap, Multiplier, Measure, Reset, Correct}
 use Rattle.operation.specs.declared.WeylError.{WeylError}
 use Rattle.operation.specs.Operation.{allowed}
-use Rattle.book_entries.specs.declared.Decoded.{Decoded}
-use Rattle.book_entries.specs.declared.Decoded.TheVariants.{Good, Bad}
+use Rattle.book_entries.specs.declared.Entry.{Entry}
 
 -- two bytes, low byte first
 abbrev pub word : List ℕ → ℕ → ℕ
@@ -31,17 +30,17 @@ bytes_of (Measure q) = 6 ∷ q ∷ 0 ∷ 0 ∷ []
 bytes_of (Reset q) = 7 ∷ q ∷ 0 ∷ 0 ∷ []
 bytes_of (Correct t m) = 8 ∷ t ∷ m % 256 ∷ m / 256 ∷ []
 
-abbrev pub good_if : Bool → Operation → Decoded
-good_if true op = Good op
-good_if false op = Bad
+abbrev pub good_if : Bool → Operation → Option Operation
+good_if true op = Some op
+good_if false op = None
 
 -- the operation, if its operands are in range, the bytes not named are 0 and a power of 1 is not written as 1
-abbrev pub if_allowed : ℕ → ℕ → Operation → Bool → Decoded
+abbrev pub if_allowed : ℕ → ℕ → Operation → Bool → Option Operation
 if_allowed d n op well-written = good_if (allowed d n op && well-written) op
 
 -- The operation that four bytes are. Bytes 2 and 3 of code 8 (low first) name a measurement; they are bytes, so that no number has two
 -- spellings.
-unfoldable pub decoded : ℕ → ℕ → ℕ → ℕ → ℕ → ℕ → Decoded
+unfoldable pub decoded : ℕ → ℕ → ℕ → ℕ → ℕ → ℕ → Option Operation
 decoded d n b0 b1 b2 b3 =
     cond (eqb b0 0) (if_allowed d n (Fourier b1 (times_in b3)) (eqb b2 0 && not (eqb b3 1)))
     (cond (eqb b0 1) (if_allowed d n (PhaseGate b1 (times_in b3)) (eqb b2 0 && not (eqb b3 1)))
@@ -52,7 +51,7 @@ decoded d n b0 b1 b2 b3 =
     (cond (eqb b0 6) (if_allowed d n (Measure b1) (eqb b2 0 && eqb b3 0))
     (cond (eqb b0 7) (if_allowed d n (Reset b1) (eqb b2 0 && eqb b3 0))
     (cond (eqb b0 8) (if_allowed d n (Correct b1 (b2 + 256 * b3)) (ltb b2 256))
-    Bad))))))))
+    None))))))))
 
 -- The operation of a code, whatever its operands: byte 1 is q or c, byte 2 is t, byte 3 says how often, or is u; of a correction byte 1 is
 -- t, bytes 2 and 3 are m. Every code from 8 up is the correction.
@@ -68,8 +67,12 @@ coded b0 b1 b2 b3 =
     (cond (eqb b0 7) (Reset b1)
     (Correct b1 (b2 + 256 * b3)))))))))
 
+-- the four bytes of entry k of a body of operations
+abbrev pub entry_at : List ℕ → ℕ → Entry
+entry_at ops k = record { code = get_or ops (4 * k) 0; first = get_or ops (4 * k + 1) 0; second = get_or ops (4 * k + 2) 0; last = get_or ops (4 * k + 3) 0 }
+
 -- entry k of a body of operations
-abbrev pub operation_at : ℕ → ℕ → List ℕ → ℕ → Decoded
+abbrev pub operation_at : ℕ → ℕ → List ℕ → ℕ → Option Operation
 operation_at d n ops k = decoded d n (get_or ops (4 * k) 0) (get_or ops (4 * k + 1) 0) (get_or ops (4 * k + 2) 0) (get_or ops (4 * k + 3) 0)
 
 -- Errors: five bytes: place (two bytes, low first), qudit, p, s.
@@ -84,4 +87,4 @@ error_at errors k = record {
 -- An entry is an operation exactly if its bytes are that operation's, with the operands in range.
 abbrev pub DecodedExactly : Type 0
 DecodedExactly = (d n b0 b1 b2 b3 : ℕ) (op : Operation)
-    → (decoded d n b0 b1 b2 b3 ≡ Good op) ↔ ((allowed d n op ≡ true) × (b0 ∷ b1 ∷ b2 ∷ b3 ∷ [] ≡ bytes_of op))
+    → (decoded d n b0 b1 b2 b3 ≡ Some op) ↔ ((allowed d n op ≡ true) × (b0 ∷ b1 ∷ b2 ∷ b3 ∷ [] ≡ bytes_of op))

@@ -1,5 +1,6 @@
 -- Each refusal has a listed number and leaves every buffer unchanged.
 -- Assumes nothing.
+use Rattle.std.proofs.Common.{Option, Some, None}
 use mathlib.Core.Path.{◌≡◌, refl}
 use mathlib.Core.Logic.{◌≢◌}
 use mathlib.Core.Bool.{Bool, true, false, ◌||◌, false≢true}
@@ -10,8 +11,6 @@ use lib.Dec.{eqb, leb, ltb}
 use lib.ListN.{length}
 use borrow.Author.Tests.{ne_eqb}
 use Rattle.modular.specs.Dimension.{among}
-use Rattle.search.specs.declared.Place.{Place}
-use Rattle.search.specs.declared.Place.TheVariants.{At, Nowhere}
 use Rattle.search.specs.Search.{unless}
 use Rattle.search.proofs.Search.{unless_cases}
 use Rattle.saved_tableau.specs.Saved.{dimension_in, qudits_in, rows_in, self_valid, valid_for}
@@ -124,17 +123,17 @@ tray-listed s tray t out =
 pub accepted-mirrored : (s out : List ℕ) (P : WriteLeft → Type 0) (d n operations errors choices : ℕ)
     → ((k : ℕ) → P (record { number = 12; place = k; out = out }))
     → P (record { number = 8; place = 0; out = out })
-    → (first_measurement (ops_in s d n) ≡ Nowhere → P (record { number = 0; place = mirror_bytes operations; out = overwritten (mirror_of d n s) out }))
+    → (first_measurement (ops_in s d n) ≡ None → P (record { number = 0; place = mirror_bytes operations; out = overwritten (mirror_of d n s) out }))
     → P (mirror_by_answer s out (accepted d n operations errors choices))
 unfolding mirror_by_answer
 accepted-mirrored s out P d n operations errors choices twelve eight written = go (first_measurement (ops_in s d n)) refl
   where
-    go : (p : Place) → first_measurement (ops_in s d n) ≡ p
+    go : (p : Option ℕ) → first_measurement (ops_in s d n) ≡ p
         → P (refuse12 p out
         (unless (leb (mirror_bytes operations) (length out)) (record { number = 8; place = 0; out = out })
         (record { number = 0; place = mirror_bytes operations; out = overwritten (mirror_of d n s) out })))
-    go (At k) none = twelve k
-    go Nowhere none = unless_cases P (leb (mirror_bytes operations) (length out)) (λ _. eight) (λ _. written none)
+    go (Some k) none = twelve k
+    go None none = unless_cases P (leb (mirror_bytes operations) (length out)) (λ _. eight) (λ _. written none)
 
 mirror-listed : (s out : List ℕ) → among (mirror_book s out).number mirror_numbers ≡ true
 unfolding mirror_book mirror_by_answer

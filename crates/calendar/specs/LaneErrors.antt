@@ -6,13 +6,18 @@ use Rattle.tableau.specs.Tableau.{part}
 use Rattle.book.specs.Decoded.{errors_of}
 use Rattle.runs.specs.Frame.{errors_on_frame}
 use Rattle.lanes.specs.Lanes.{lane}
+use Rattle.calendar.specs.declared.lane_errors.Span.{Span}
 
--- The bytes of lane l's errors: they begin at byte `starts l` of the tray, and are `sizes l` many.
-abbrev pub lane_body : List ℕ → List ℕ → List ℕ → ℕ → List ℕ
-lane_body tray starts sizes l = part (get_or starts l 0) (get_or sizes l 0) tray
+-- where lane l's errors lie
+abbrev pub span_at : List Span → ℕ → Span
+span_at spans l = get_or spans l (record { start = 0; size = 0 })
 
-abbrev pub lane_errors : List ℕ → List ℕ → List ℕ → ℕ → List WeylError
-lane_errors tray starts sizes l = errors_of (lane_body tray starts sizes l)
+-- the bytes of lane l's errors, and the errors
+abbrev pub body_at : List ℕ → List Span → ℕ → List ℕ
+body_at tray spans l = part (span_at spans l).start (span_at spans l).size tray
+
+abbrev pub errors_at : List ℕ → List Span → ℕ → List WeylError
+errors_at tray spans l = errors_of (body_at tray spans l)
 
 -- Lane l, which had the errors of place k up to entry i, has them all; the other lanes are as they were.
 pub record ErrorsApplied (d n k l i : ℕ) (errors : List WeylError) (v w : List ℕ) : Type 0 where
@@ -21,8 +26,6 @@ pub record ErrorsApplied (d n k l i : ℕ) (errors : List WeylError) (v w : List
   pub others : (j : ℕ) → j < 256 → j ≢ l → lane n w j ≡ lane n v j
 
 -- 256 lanes of a tray, each with a body of errors that a run can take
-pub record LaneBodies (d n : ℕ) (tray starts sizes : List ℕ) : Type 0 where
-  pub starts_room : length starts ≡ 256
-  pub sizes-room : length sizes ≡ 256
-  pub inside : (l : ℕ) → l < 256 → get_or starts l 0 + get_or sizes l 0 ≤ length tray
-  pub errors-in-order : (l : ℕ) → l < 256 → ErrorsInOrder d n (lane_errors tray starts sizes l)
+pub record LaneBodies (d n : ℕ) (tray : List ℕ) (spans : List Span) : Type 0 where
+  pub inside : (l : ℕ) → l < 256 → (span_at spans l).start + (span_at spans l).size ≤ length tray
+  pub errors-in-order : (l : ℕ) → l < 256 → ErrorsInOrder d n (errors_at tray spans l)

@@ -1,4 +1,4 @@
-// Numbers in a wider type. As functions, they give a proof the fact that the number is the same.
+// Numbers in a wider type. Nothing calls these any more (`u16::from`, `usize::from`); they stay for their must-fail edit, high_bit_lost.
 #![tactic(auto)]
 
 ghost use Rattle.std.specs.Prelude.{◌≡◌, ◌<◌};

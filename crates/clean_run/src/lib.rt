@@ -5,66 +5,52 @@ ghost use Rattle.std.specs.Prelude.{◌≡◌, true, [], ◌*◌, ◌≤◌, len
 ghost use Rattle.modular.specs.Dimension.{listed};
 ghost use Rattle.validity.specs.Validity.{Valid};
 ghost use Rattle.circuit.specs.Circuit.{measurement_count, Accepted};
-ghost use Rattle.book.specs.Decoded.{operations_of};
+ghost use Rattle.book.specs.Circuits.{operation_list};
 ghost use Rattle.runs.specs.Direct.{state_of, direct_run};
 ghost use Rattle.measure_step.specs.Supplied.{RunTables};
 
+use book::Circuit;
 use runs::Position;
+use tables::Tables;
 
 // Every operation. The number of measurements.
-fn run_by(
-    t: &mut [u8],
-    results: &mut [u8],
-    ops: &[u8],
-    choices: &[u8],
-    tables: &[u8],
-    d: u8,
-    n: usize,
-) -> usize
-    requires { RunTables d n tables.now
-        × Accepted d n (operations_of d n ops.now) [] choices.now
-        × (2 * measurement_count (operations_of d n ops.now) ≤ length results.old)
-        × Valid d n t.old }
-    ensures { (state_of t.new results.new
-        ≡ direct_run d n (operations_of d n ops.now) [] choices.now (state_of t.old results.old))
-        × (result ≡ measurement_count (operations_of d n ops.now))
-        × Valid d n t.new }
+#[tactic(auto, using(direct_step::proofs::Counting::counting))]
+fn run_by(t: &mut [u8], results: &mut [u8], circuit: &Circuit, tables: &Tables) -> usize
+    requires made { RunTables circuit.now.d circuit.now.n tables.now.d }
+    requires accepted { Accepted circuit.now.d circuit.now.n (operation_list circuit.now) [] circuit.now.choices.now }
+    requires room { 2 * measurement_count (operation_list circuit.now) ≤ length results.old }
+    requires valid { Valid circuit.now.d circuit.now.n t.old }
+    ensures state { state_of t.new results.new
+        ≡ direct_run circuit.now.d circuit.now.n (operation_list circuit.now) [] circuit.now.choices.now
+        (state_of t.old results.old) }
+    ensures measurements { result ≡ measurement_count (operation_list circuit.now) }
+    ensures valid { Valid circuit.now.d circuit.now.n t.new }
 {
-    let count = ops.len() / 4;
-    let mut at = Position {
-        entry: 0,
-        measurements: 0,
-        choices: 0,
-    };
-    let mut k = 0;
-    while k < count {
-        let c = at.choices;
-        let j = at.measurements;
-        let next = k + 1;
-        at = direct_step::counted(ops, k, at, d, n);
-        if ops[4 * k] < 6 {
-            direct_step::operate_gate(t, ops, k, tables, d, n);
+    let mut at = Position::default();
+    for k in 0..circuit.count() {
+        if circuit.code(k) < 6 {
+            direct_step::operate_gate(t, circuit, k, tables);
         } else {
-            direct_step::operate(t, results, ops, choices, k, c, j, tables, d, n);
+            direct_step::operate(t, results, circuit, k, at, tables);
         }
-        k = next;
+        at = direct_step::counted(circuit, k, at);
     }
     at.measurements
 }
 
 // The direct run without errors, by tables that are made once for all its steps. The number of measurements.
-pub fn run(t: &mut [u8], results: &mut [u8], ops: &[u8], choices: &[u8], d: u8, n: usize) -> usize
-    requires { (listed d ≡ true)
-        × (n ≤ 64)
-        × Accepted d n (operations_of d n ops.now) [] choices.now
-        × (2 * measurement_count (operations_of d n ops.now) ≤ length results.old)
-        × Valid d n t.old }
-    ensures { (state_of t.new results.new
-        ≡ direct_run d n (operations_of d n ops.now) [] choices.now (state_of t.old results.old))
-        × (result ≡ measurement_count (operations_of d n ops.now))
-        × Valid d n t.new }
+pub fn run(t: &mut [u8], results: &mut [u8], circuit: &Circuit) -> usize
+    requires dimension { listed circuit.now.d ≡ true }
+    requires few { circuit.now.n ≤ 64 }
+    requires accepted { Accepted circuit.now.d circuit.now.n (operation_list circuit.now) [] circuit.now.choices.now }
+    requires room { 2 * measurement_count (operation_list circuit.now) ≤ length results.old }
+    requires valid { Valid circuit.now.d circuit.now.n t.old }
+    ensures state { state_of t.new results.new
+        ≡ direct_run circuit.now.d circuit.now.n (operation_list circuit.now) [] circuit.now.choices.now
+        (state_of t.old results.old) }
+    ensures measurements { result ≡ measurement_count (operation_list circuit.now) }
+    ensures valid { Valid circuit.now.d circuit.now.n t.new }
 {
-    let mut tables = [0u8; 1152];
-    tables::make(&mut tables, d);
-    run_by(t, results, ops, choices, &tables, d, n)
+    let tables = Tables::new(circuit.d);
+    run_by(t, results, circuit, &tables)
 }

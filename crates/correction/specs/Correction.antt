@@ -20,3 +20,8 @@ reported_in w base tile out m l = cond (ltb m base) (written_in w out m l) (held
 pub record Corrected (d n q r used : ℕ) (reported : ℕ → ℕ) (v v' : List ℕ) : Type 0 where
   pub len : length v' ≡ length v
   pub each : (l : ℕ) → l < used → lane n v' l ≡ less_x d q ((reported l + neg d r) % d) (lane n v l)
+
+-- The same, where R says which result a lane has.
+pub record CorrectedBy (d n q r used : ℕ) (R : ℕ → ℕ → Type 0) (v v' : List ℕ) : Type 0 where
+  pub len : length v' ≡ length v
+  pub each : (l : ℕ) → l < used → (x : ℕ) × R l x × (lane n v' l ≡ less_x d q ((x + neg d r) % d) (lane n v l))

@@ -1,49 +1,46 @@
 // Where a run stands that goes on: the number alone tells which errors and choices are spent.
 #![tactic(auto)]
 
-ghost use Rattle.std.specs.Prelude.{◌≡◌, true, ℕ, ◌/◌, ◌<◌, ◌≤◌, length};
+ghost use Rattle.std.specs.Prelude.{◌≡◌, true, ℕ, ◌<◌, ◌≤◌, length};
 ghost use Rattle.operation.specs.Operation.{allowed};
 ghost use Rattle.circuit.specs.Circuit.{op_at, chosen, ErrorsInOrder};
-ghost use Rattle.book.specs.Decoded.{operations_of, errors_of};
+ghost use Rattle.book.specs.Circuits.{operation_list, error_list};
 ghost use Rattle.runs.specs.Reached.{Reached, AtStep};
 
+use book::Circuit;
 use runs::Position;
 
 // The first error entry whose place is not below k.
-fn entry_from(errors: &[u8], k: usize, d: u8, n: usize) -> usize
-    requires { ErrorsInOrder d n (errors_of errors.now) }
-    ensures { Reached (errors_of errors.now) result k }
+fn entry_from(circuit: &Circuit, k: usize) -> usize
+    requires { ErrorsInOrder circuit.now.d circuit.now.n (error_list circuit.now) }
+    ensures { Reached (error_list circuit.now) result k }
 {
-    let count = errors.len() / 5;
-    let mut j = 0;
-    while j < count {
-        let e = book_entries::error_at(errors, j);
+    let count = circuit.error_count();
+    for j in 0..count {
+        let e = circuit.error(j);
         if e.place >= k {
             return j;
         }
-        j += 1;
     }
-    j
+    count
 }
 
 // Where a run stands before operation k, or before the errors after all of them: the results given and the choices taken are counted over
 // the earlier operations.
-pub fn position(ops: &[u8], errors: &[u8], k: usize, d: u8, n: usize) -> Position
-    requires { (k ≤ length ops.now / 4)
-        × ((i : ℕ) → i < k → allowed d n (op_at (operations_of d n ops.now) i) ≡ true)
-        × ErrorsInOrder d n (errors_of errors.now) }
-    ensures { AtStep (operations_of d n ops.now) (errors_of errors.now) k result
-        × (result.choices ≡ chosen (operations_of d n ops.now) k) }
+#[tactic(auto, using(direct_step::proofs::Counting::counting))]
+pub fn position(circuit: &Circuit, k: usize) -> Position
+    requires inside { k ≤ length (operation_list circuit.now) }
+    requires allowed { (i : ℕ) → i < k → allowed circuit.now.d circuit.now.n (op_at (operation_list circuit.now) i) ≡ true }
+    requires in_order { ErrorsInOrder circuit.now.d circuit.now.n (error_list circuit.now) }
+    ensures stands { AtStep (operation_list circuit.now) (error_list circuit.now) k result }
+    ensures chosen { result.choices ≡ chosen (operation_list circuit.now) k }
 {
     let mut at = Position {
-        entry: entry_from(errors, k, d, n),
-        measurements: 0,
-        choices: 0,
+        entry: entry_from(circuit, k),
+        ..Position::default()
     };
-    let mut i = 0;
-    while i < k {
-        at = direct_step::counted(ops, i, at, d, n);
-        i += 1;
+    for i in 0..k {
+        at = direct_step::counted(circuit, i, at);
     }
     at
 }

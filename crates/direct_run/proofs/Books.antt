@@ -1,5 +1,6 @@
 -- A book that the reader has accepted, by the tests of its buffers; and what its run leaves, where none of 1 to 9 refuses.
 -- Assumes nothing.
+use Rattle.std.proofs.Common.{Result, Ok}
 use mathlib.Core.Path.{◌≡◌, sym, ap, ◌∙◌}
 use mathlib.Core.Bool.{Bool, true, false, and-eq-true_iff}
 use mathlib.Core.List.{List}
@@ -10,8 +11,7 @@ use lib.ListN.{length}
 use borrow.Author.Tests.{leb-true, le-leb, lt-leb}
 use Rattle.saved_tableau.specs.Saved.{rows_in, tableau_bytes, valid_for}
 use Rattle.book_body.specs.declared.Numbers.{Numbers}
-use Rattle.book_body.specs.declared.Reading.{Reading}
-use Rattle.book_body.specs.declared.Reading.TheVariants.{Accepted as Taken}
+use Rattle.answer.specs.declared.Refusal.{Refusal}
 use Rattle.book_body.specs.Body.{refused, accepted, answer_of, measured_of, measured_by}
 use Rattle.book.specs.Book.{operations_entry, part_of, read_book, body_of}
 use Rattle.book.specs.Decoded.{ops_in, errors_in, choices_in, measurements_in}
@@ -54,13 +54,13 @@ module _ (s : List ℕ) {d n measurements : ℕ} (g : Handed s d n measurements)
     tested-book {v} e k reads = rw (reads, g.counted, fits, sym e ∙ k)
 
 -- what the tests have let through
-pub passed : (s t results : List ℕ) {reading : Reading} {b : Numbers}
-    → (answer_of reading ≡ direct_tested s t results (read_book s)) × (measured_of reading ≡ measured_by (part_of s operations_entry) (answer_of reading))
-    → reading ≡ Taken b
+pub passed : (s t results : List ℕ) {reading : Result Numbers Refusal} {b : Numbers}
+    → answer_of reading ≡ direct_tested s t results (read_book s) → measured_of reading ≡ measured_by (part_of s operations_entry) (answer_of reading)
+    → reading ≡ Ok b
     → Passes s t results b.d b.n b.operations b.errors b.choices × (b.measurements ≡ measurements_in s b.d b.n)
-passed s t results {reading} {b} (e, counts) f =
+passed s t results {reading} {b} e counts f =
     let g = tested-passes s t results (sym e ∙ ap answer_of f) in
-    (g, sym (handed s (ap answer_of f ∙ sym g.reads, counts) f).counted)
+    (g, sym (handed s (ap answer_of f ∙ sym g.reads) counts f).counted)
 
 module _ (s t results : List ℕ) {d n operations errors choices : ℕ} (g : Passes s t results d n operations errors choices) where
   pub many : length (ops_in s d n) ≡ operations

@@ -3,7 +3,7 @@
 use mathlib.Core.Path.{◌≡◌}
 use mathlib.Core.Bool.{true}
 use mathlib.Core.List.{List}
-use Prim.Native.Nat.{ℕ, ◌+◌, ◌*◌, ◌/◌, ◌<◌}
+use Prim.Native.Nat.{ℕ, ◌+◌, ◌*◌, ◌<◌}
 use native.Mathlib.Omega.{arith}
 use lib.ListN.{length, get_or}
 use Rattle.operation.specs.declared.Operation.{Operation}
@@ -11,11 +11,13 @@ use Rattle.operation.specs.declared.WeylError.{WeylError}
 use Rattle.operation.specs.Operation.{allowed}
 use Rattle.operation.specs.Gate.{gate_rows}
 use Rattle.circuit.specs.Circuit.{op_at, tally, measured, chosen}
-use Rattle.book.specs.Decoded.{operations_of}
+use Rattle.book.specs.declared.bodies.Circuit.{Circuit}
+use Rattle.book.specs.Circuits.{operation_list}
+use Rattle.book.proofs.Circuits.{entry-inside}
 use Rattle.operation_codes.proofs.Codes.{code-gate}
 use Rattle.runs.specs.declared.Position.{Position}
 use Rattle.runs.specs.Reached.{Reached, AtStep}
-use Rattle.runs.specs.Direct.{State, errors_on_rows, direct_kind, direct_operation, direct_errors, direct_step}
+use Rattle.runs.specs.Direct.{State, state_of, errors_on_rows, direct_kind, direct_operation, direct_errors, direct_step}
 use Rattle.runs.proofs.Results.{measured-step}
 
 module _ (d n : ℕ) (ops : List Operation) (errors : List WeylError) (choices : List ℕ) where
@@ -24,22 +26,22 @@ module _ (d n : ℕ) (ops : List Operation) (errors : List WeylError) (choices :
       c ≡ chosen ops k →
       j ≡ measured ops k →
       after-errors ≡ errors_on_rows d n errors k t (length errors) →
-      after ≡ direct_operation d n choices c j (record { rows = after-errors; results = results }) (op_at ops k) →
-      after ≡ direct_step d n ops errors choices k (record { rows = t; results = results })
+      after ≡ direct_operation d n choices c j (state_of after-errors results) (op_at ops k) →
+      after ≡ direct_step d n ops errors choices k (state_of t results)
   unfolding direct_step direct_errors
   step_is k t results x m s e = rw (← x, ← m, ← s) e
 
 -- an entry whose code is a gate's is done on the rows, and leaves the results
 pub gate-is :
-    (d n : ℕ) (ops : List ℕ) (k : ℕ) (choices : List ℕ) (c j : ℕ) (t results : List ℕ) {t' : List ℕ} →
-    k < length ops / 4 →
-    allowed d n (op_at (operations_of d n ops) k) ≡ true →
-    get_or ops (4 * k) 0 < 6 →
-    t' ≡ gate_rows d n (op_at (operations_of d n ops) k) t →
-    ◌≡◌ {A = State} (record { rows = t'; results = results })
-    (direct_operation d n choices c j (record { rows = t; results = results }) (op_at (operations_of d n ops) k))
+    (circuit : Circuit) (k : ℕ) (c j : ℕ) (t results : List ℕ) {t' : List ℕ} →
+    k < length (operation_list circuit) →
+    allowed circuit.d circuit.n (op_at (operation_list circuit) k) ≡ true →
+    get_or circuit.ops.now (4 * k) 0 < 6 →
+    t' ≡ gate_rows circuit.d circuit.n (op_at (operation_list circuit) k) t →
+    state_of t' results ≡ direct_operation circuit.d circuit.n circuit.choices.now c j (state_of t results) (op_at (operation_list circuit) k)
 unfolding direct_kind
-gate-is d n ops k choices c j t results inside h low e = rw (code-gate d n ops k inside h low, e)
+gate-is circuit k c j t results inside fits low e =
+    rw (code-gate circuit.d circuit.n circuit.ops.now k (entry-inside circuit k inside) fits low, e)
 
 -- where a run stands after a step
 pub next-step : {ops : List Operation} {errors : List WeylError} {k entry : ℕ} {at next : Position} → AtStep ops errors k at → Reached errors entry (k + 1)

@@ -1,17 +1,17 @@
--- ColumnSums of products of factors with columns: they are small, eight more are two times four, and a wide copy of the factors serves.
+-- Sums of products of factors with columns: they are small, eight more are two times four, and a wide copy of the factors serves.
 -- Assumes nothing.
 use mathlib.Core.Path.{◌≡◌, refl, sym, ap, ◌∙◌}
-use mathlib.Core.List.{List}
+use mathlib.Core.List.{List, [], ◌∷◌}
 use Prim.Native.Nat.{ℕ, zero, suc, ◌+◌, ◌-◌, ◌*◌, ◌<◌, ◌≤◌}
 use native.Mathlib.Decide.{dec_lt}
 use native.Mathlib.Nat.{mul-le-mul}
 use native.Mathlib.Omega.{arith}
-use lib.ListN.{length, get_or, replicate, length-replicate, get_or-replicate, get_or-eq_default}
+use lib.ListN.{length, get_or, take, drop, replicate, length-take, length-replicate, get_or-replicate, get_or-eq_default}
+use lib.Seq.{get_or-take, get_or-drop}
 use Rattle.row.specs.Row.{x_of}
 use Rattle.row.specs.Fill.{filled}
 use Rattle.row.proofs.Fill.{filled-get, filled-rest}
-use Rattle.dots.specs.declared.Four.{Four}
-use Rattle.dots.specs.Dots.{Small, combined, ColumnSums, SmallFour, four_at, products}
+use Rattle.dots.specs.Dots.{Small, SmallColumns, number, combined, ColumnSums}
 
 pub zero-at : (m k : ℕ) → get_or {A = ℕ} (replicate m 0) k 0 ≡ 0
 zero-at m k = by (dec_lt k m)
@@ -33,66 +33,84 @@ copied v m e k = ap (λ (x : List ℕ). get_or x k 0) e ∙ by (dec_lt k (length
 pub copied-small : (v w : List ℕ) → Small v → ((k : ℕ) → get_or w k 0 ≡ get_or v k 0) → Small w
 copied-small v w b h = record { most = λ k. omega (arith, b.most k, h k) }
 
-pub combined-most : (v c : List ℕ) (at k : ℕ) → Small v → Small c → combined v c at k ≤ 900 * k
+-- m columns from k on
+pub number-part : (c : List (List ℕ)) (k m s j : ℕ) → s < m → number (take m (drop k c)) s j ≡ number c (k + s) j
+number-part c k m s j l = ap (λ (x : List ℕ). get_or x j 0) (get_or-take m (drop k c) s [] l ∙ get_or-drop k c s [])
+
+pub small-part : (c : List (List ℕ)) (k m : ℕ) → SmallColumns c → SmallColumns (take m (drop k c))
+small-part c k m h = record { most = λ s j. by s j (dec_lt s m) }
+  where
+    by : (s j : ℕ) → Dec (s < m) → number (take m (drop k c)) s j ≤ 30
+    by s j (yes l) = rw (number-part c k m s j l) (h.most (k + s) j)
+    by s j (no l) = rw (get_or-eq_default (take m (drop k c)) [] {n = s} (omega (arith, length-take m (drop k c)))) (omega arith)
+
+pub combined_most : (v : List ℕ) (c : List (List ℕ)) (j k : ℕ) → Small v → SmallColumns c → combined v c j k ≤ 900 * k
 unfolding combined
-combined-most v c at zero a b = omega arith
-combined-most v c at (suc k) a b =
-    let p : get_or v k 0 * get_or c (at + 128 * k) 0 ≤ 900 = mul-le-mul (a.most k) (b.most (at + 128 * k)) in
-    omega (arith, combined-most v c at k a b)
+combined_most v c j zero a b = omega arith
+combined_most v c j (suc k) a b =
+    let p : get_or v k 0 * number c k j ≤ 900 = mul-le-mul (a.most k) (b.most k j) in
+    omega (arith, combined_most v c j k a b)
 
--- factors of a list of small numbers are small
-pub four-small : (v : List ℕ) (k : ℕ) {f : Four} → f ≡ four_at v k → Small v → SmallFour f
-four-small v k e s = rw e (record { first = s.most k; second = s.most (k + 1); third = s.most (k + 2); fourth = s.most (k + 3) })
+-- equal factors, equal sums
+combined-same : (v w : List ℕ) (c : List (List ℕ)) (j : ℕ) → ((k : ℕ) → get_or w k 0 ≡ get_or v k 0) → (k : ℕ) → combined w c j k ≡ combined v c j k
+unfolding combined
+combined-same v w c j e zero = refl
+combined-same v w c j e (suc k) = rw (combined-same v w c j e k, e k)
 
-module _ (v c : List ℕ) (at : ℕ) where
-  -- equal factors, equal sums
-  combined-same : (w : List ℕ) → ((k : ℕ) → get_or w k 0 ≡ get_or v k 0) → (k : ℕ) → combined w c at k ≡ combined v c at k
-  unfolding combined
-  combined-same w e zero = refl
-  combined-same w e (suc k) = rw (combined-same w e k, e k)
+-- past the last factor the sum stays
+combined-past : (v : List ℕ) (c : List (List ℕ)) (j m : ℕ) → combined v c j (length v + m) ≡ combined v c j (length v)
+unfolding combined
+combined-past v c j zero = let q : length v + 0 ≡ length v = omega arith in rw q
+combined-past v c j (suc m) =
+    let q : length v + suc m ≡ suc (length v + m) = omega arith in
+    let z : get_or v (length v + m) 0 ≡ 0 = get_or-eq_default v 0 (omega arith) in
+    let y : 0 * number c (length v + m) j ≡ 0 = omega arith in
+    rw (q, z, y) (omega (arith, combined-past v c j m))
 
-  -- past the last factor the sum stays
-  combined-past : (m : ℕ) → combined v c at (length v + m) ≡ combined v c at (length v)
-  unfolding combined
-  combined-past zero = let q : length v + 0 ≡ length v = omega arith in rw q
-  combined-past (suc m) =
-      let q : length v + suc m ≡ suc (length v + m) = omega arith in
-      let z : get_or v (length v + m) 0 ≡ 0 = get_or-eq_default v 0 (omega arith) in
-      let y : 0 * get_or c (at + 128 * (length v + m)) 0 ≡ 0 = omega arith in
-      rw (q, z, y) (omega (arith, combined-past m))
+-- four factors, those from k on
+pub four-at : (v : List ℕ) (k : ℕ) {a b c d : ℕ} → a ≡ get_or v k 0 → b ≡ get_or v (k + 1) 0 → c ≡ get_or v (k + 2) 0 → d ≡ get_or v (k + 3) 0
+    → (s : ℕ) → s < 4 → get_or (a ∷ b ∷ c ∷ d ∷ []) s 0 ≡ get_or v (k + s) 0
+four-at v k e f g h zero l = let z : k + 0 ≡ k = omega arith in rw z e
+four-at v k e f g h (suc zero) l = f
+four-at v k e f g h (suc (suc zero)) l = g
+four-at v k e f g h (suc (suc (suc zero))) l = h
+four-at v k e f g h (suc (suc (suc (suc s)))) l = absurd (omega arith)
 
-  combined-four : (k : ℕ) → combined v c at (k + 4) ≡ combined v c at k + products (four_at v k) c (at + 128 * k)
-  unfolding combined
-  combined-four k =
-      let q : k + 4 ≡ suc (suc (suc (suc k))) = omega arith in
-      let k₁ : suc k ≡ k + 1 = omega arith in
-      let k₂ : suc (suc k) ≡ k + 2 = omega arith in
-      let k₃ : suc (suc (suc k)) ≡ k + 3 = omega arith in
-      let a₁ : at + 128 * (k + 1) ≡ at + 128 * k + 128 = omega arith in
-      let a₂ : at + 128 * (k + 2) ≡ at + 128 * k + 256 = omega arith in
-      let a₃ : at + 128 * (k + 3) ≡ at + 128 * k + 384 = omega arith in
-      rw (q, k₃, k₂, k₁, a₁, a₂, a₃) (omega arith)
+-- four more, of four such factors and columns
+combined-four :
+    (v f : List ℕ) (c e : List (List ℕ)) (j k : ℕ) →
+    ((s : ℕ) → s < 4 → get_or f s 0 ≡ get_or v (k + s) 0) →
+    ((s : ℕ) → s < 4 → number e s j ≡ number c (k + s) j) →
+    combined v c j (k + 4) ≡ combined v c j k + combined f e j 4
+unfolding combined
+combined-four v f c e j k p q =
+    let a : k + 4 ≡ suc (suc (suc (suc k))) = omega arith in
+    let k₀ : k + 0 ≡ k = omega arith in
+    let k₁ : k + 1 ≡ suc k = omega arith in
+    let k₂ : k + 2 ≡ suc (suc k) = omega arith in
+    let k₃ : k + 3 ≡ suc (suc (suc k)) = omega arith in
+    rw (a, p 0 (omega arith), p 1 (omega arith), p 2 (omega arith), p 3 (omega arith), q 0 (omega arith), q 1 (omega arith), q 2 (omega arith), q 3 (omega arith), k₀, k₁, k₂, k₃) (omega arith)
 
 -- eight more, as the code reads them
-pub combined-eight : (v c : List ℕ) (from j k : ℕ) (f g : Four) → f ≡ four_at v k → g ≡ four_at v (k + 4)
-    → combined v c (from + j) k + (products f c (from + 128 * k + j) + products g c (from + 128 * k + 512 + j)) ≡ combined v c (from + j) (k + 8)
-combined-eight v c from j k f g d e =
-    let a : from + 128 * k + j ≡ from + j + 128 * k = omega arith in
-    let b : from + 128 * k + 512 + j ≡ from + j + 128 * (k + 4) = omega arith in
-    let q : k + 8 ≡ k + 4 + 4 = omega arith in
-    rw (d, e, a, b, q) (omega (arith, combined-four v c (from + j) k, combined-four v c (from + j) (k + 4)))
+pub combined-eight :
+    (v f g : List ℕ) (c : List (List ℕ)) (j k m n : ℕ) → 8 ≤ m → 4 ≤ n →
+    ((s : ℕ) → s < 4 → get_or f s 0 ≡ get_or v (k + s) 0) →
+    ((s : ℕ) → s < 4 → get_or g s 0 ≡ get_or v (k + 4 + s) 0) →
+    combined v c j k + (combined f (take m (drop k c)) j 4 + combined g (take n (drop 4 (take m (drop k c)))) j 4) ≡ combined v c j (k + 8)
+combined-eight v f g c j k m n a b p q =
+    let e : k + 8 ≡ k + 4 + 4 = omega arith in
+    let first = combined-four v f c (take m (drop k c)) j k p (λ s l. number-part c k m s j (omega arith)) in
+    let second = combined-four v g c (take n (drop 4 (take m (drop k c)))) j (k + 4) q (λ s l.
+    number-part (take m (drop k c)) 4 n s j (omega arith) ∙ number-part c k m (4 + s) j (omega arith) ∙ ap (λ (x : ℕ). number c x j) (omega arith)) in
+    rw e (omega (arith, first, second))
 
 -- a copy's factors serve, and those past the last are 0
-pub sums_of : (v w c : List ℕ) (from count m : ℕ) {sums : List ℕ} → ((k : ℕ) → get_or w k 0 ≡ get_or v k 0) → length v ≤ m
-    → ColumnSums w c from count m sums → ColumnSums v c from count (length v) sums
-sums_of v w c from count m e l s =
+pub sums_of : (v w : List ℕ) (c : List (List ℕ)) (count m : ℕ) {sums : List ℕ} → ((k : ℕ) → get_or w k 0 ≡ get_or v k 0) → length v ≤ m
+    → ColumnSums w c count m sums → ColumnSums v c count (length v) sums
+sums_of v w c count m e l s =
     let q : m ≡ length v + (m - length v) = omega arith in
-    record {
-      len = s.len;
-      sum = λ j h. s.sum j h ∙ combined-same v c (from + j) w e m ∙ ap (combined v c (from + j)) q ∙ combined-past v c (from + j) (m - length v);
-    }
+    record { sum = λ j h. s.sum j h ∙ combined-same v w c j e m ∙ ap (combined v c j) q ∙ combined-past v c j (m - length v) }
 
-pub sums_none : (v c : List ℕ) (from count : ℕ) {sums : List ℕ} → sums ≡ replicate 128 0 → ColumnSums v c from count 0 sums
+pub sums_none : (v : List ℕ) (c : List (List ℕ)) (count : ℕ) {sums : List ℕ} → sums ≡ replicate 128 0 → ColumnSums v c count 0 sums
 unfolding combined
-sums_none v c from count e =
-    record { len = ap length e ∙ length-replicate {A = ℕ} 128 0; sum = λ j h. ap (λ (x : List ℕ). get_or x j 0) e ∙ zero-at 128 j }
+sums_none v c count e = record { sum = λ j h. ap (λ (x : List ℕ). get_or x j 0) e ∙ zero-at 128 j }

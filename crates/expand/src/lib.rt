@@ -3,7 +3,7 @@
 #![tactic(auto)]
 
 ghost use Rattle.std.specs.Prelude.{◌≡◌, ◌∷◌, ◌+◌, ◌*◌, ◌≤◌, length};
-ghost use Rattle.tableau.specs.Tableau.{part, put};
+ghost use Rattle.tableau.specs.Tableau.{put};
 ghost use Rattle.expand.specs.Expand.{noisy_among, shot_row_of, RowsRoom, Expanded};
 
 use book_entries::word;
@@ -14,20 +14,7 @@ fn clean_row(row: &mut [u8], clean: &[u8])
     ensures { row.new ≡ 0 ∷ clean.now }
 {
     row[0] = 0;
-    tableau::copy(&mut row[1..], clean);
-}
-
-// The w bytes from `to` on become those from `from` on, which lie before them.
-fn move_row(out: &mut [u8], from: usize, to: usize, w: usize)
-    requires { (from + w ≤ to)
-        × (to + w ≤ length out.old) }
-    ensures { out.new ≡ put to w (part from w out.old) out.old }
-{
-    let mut j = 0;
-    while j < w {
-        out[to + j] = out[from + j];
-        j += 1;
-    }
+    row[1..].copy_from_slice(clean);
 }
 
 // The row of shot first + i, when `noisy` shots up to it have errors. How many before it have some is returned.
@@ -40,20 +27,20 @@ fn row_at(
     i: usize,
     noisy: usize,
 ) -> usize
-    requires { RowsRoom tray.now first clean.now w (i + 1) out.old
-        × (noisy ≡ noisy_among tray.now first (i + 1))
-        × (noisy ≤ i) }
-    ensures { (result ≡ noisy_among tray.now first i)
-        × (out.new ≡ put (i * w) w (shot_row_of tray.now first clean.now w out.old i) out.old) }
+    requires rows { RowsRoom tray.now first clean.now w (i + 1) out.old }
+    requires noisy_count { noisy ≡ noisy_among tray.now first (i + 1) }
+    requires some_clean { noisy ≤ i }
+    ensures noisy_before { result ≡ noisy_among tray.now first i }
+    ensures row { out.new ≡ put (i * w) w (shot_row_of tray.now first clean.now w out.old i) out.old }
 {
     let s = i * w;
-    let e = s + w;
     if word(tray, 2 + 2 * (first + i)) == 0 {
-        clean_row(&mut out[s..e], clean);
+        clean_row(&mut out[s..s + w], clean);
         return noisy;
     }
     let before = noisy - 1;
-    move_row(out, before * w, s, w);
+    let from = before * w;
+    out.copy_within(from..from + w, s);
     before
 }
 
@@ -68,14 +55,15 @@ pub fn expand(
     count: usize,
     noisy: usize,
 )
-    requires { RowsRoom tray.now first clean.now w count out.old
-        × (noisy ≡ noisy_among tray.now first count) }
+    requires rows { RowsRoom tray.now first clean.now w count out.old }
+    requires noisy_count { noisy ≡ noisy_among tray.now first count }
     ensures { Expanded tray.now first clean.now w count out.old out.new }
 {
-    let mut i = count;
     let mut k = noisy;
-    while k < i {
-        i -= 1;
+    for i in (0..count).rev() {
+        if i < k {
+            return;
+        }
         k = row_at(out, tray, clean, w, first, i, k);
     }
 }

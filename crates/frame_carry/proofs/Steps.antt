@@ -29,8 +29,7 @@ use Rattle.runs.proofs.Results.{is_measure, is_correct, measured-before}
 use Rattle.runs.proofs.Shifts.{shift_known, shift_of}
 use Rattle.runs.proofs.Carry.{with_none, with_more}
 use Rattle.operation_codes.specs.Allowed.{AllAllowed, AllNamed}
-use Rattle.frame_carry.specs.CarryInputs.{Noted}
-use Rattle.frame_carry.specs.Shifted.{moved_by, shifted_by, noted_by, frame_after, results_after, shifts_after}
+use Rattle.frame_carry.specs.Shifted.{Noted, moved_by, shifted_by, noted_by, frame_after, results_after, shifts_after}
 
 -- errors keep powers below d
 pub errors-powers : (d n : ℕ) → 0 < d → (errors : List WeylError) (k : ℕ) (G : List ℕ) → Powers d n G → (j : ℕ) → Powers d n (errors_on_frame d n errors k G j)
@@ -56,11 +55,11 @@ module _ (d n : ℕ) (ops : List Operation) (errors : List WeylError) (F v : Lis
     pub results : w ≡ with_shifts d shifts (measured ops k) v
     pub noted : (i : ℕ) → i < measured ops k → get_or S i 0 ≡ get_or shifts i 0
 
-  pub carried_none : (S : List ℕ) → FrameCarried 0 (record { entry = 0; measurements = 0; choices = 0 }) F v S
+  pub carried_none : (S : List ℕ) (at : Position) → at.entry ≡ 0 → at.measurements ≡ 0 → FrameCarried 0 at F v S
   unfolding measured carried
-  carried_none S =
+  carried_none S at first none =
       record {
-        at-step = record { reached = reached-none errors; count = refl };
+        at-step = record { reached = rw first (reached-none errors); count = none };
         frame = refl;
         results = sym (with_none d shifts v);
         noted = λ i l. absurd (omega arith);

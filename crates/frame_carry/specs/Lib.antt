@@ -1,2 +1,1 @@
-pub mod CarryInputs
 pub mod Shifted

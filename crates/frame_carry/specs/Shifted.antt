@@ -1,5 +1,5 @@
 -- What a step does to the frame, to the results and to the shifts that are noted beside them.
-use Rattle.std.specs.Prelude.{List, ℕ, ◌+◌, ◌*◌, ◌%◌, get_or, set}
+use Rattle.std.specs.Prelude.{List, ℕ, ◌+◌, ◌*◌, ◌%◌, ◌<◌, ◌≤◌, length, get_or, set}
 use Rattle.row.specs.Row.{x_of}
 use Rattle.operation.specs.declared.Operation.{Operation}
 use Rattle.operation.specs.declared.WeylError.{WeylError}
@@ -7,6 +7,11 @@ use Rattle.operation.specs.Gate.{gate_frame}
 use Rattle.circuit.specs.Circuit.{op_at, Kind, gate, measures, resets, corrects, kind, measured}
 use Rattle.runs.specs.Frame.{reset_frame, correct_frame}
 use Rattle.runs.specs.Raised.{frame_before}
+
+-- the shifts of the first j results, with room for those of all measurements
+pub record Noted (d count j : ℕ) (shifts : List ℕ) : Type 0 where
+  pub room : count ≤ length shifts
+  pub below : (i : ℕ) → i < j → get_or shifts i 0 < d
 
 -- the frame after an operation, with the shifts that earlier results had
 unfoldable pub moved_by : (d n : ℕ) → Operation → Kind → (shifts F : List ℕ) → List ℕ

@@ -1,16 +1,55 @@
-// What a gate and an error do to a frame. Fourier and swap do the same to a row's powers.
+// What a gate, an error, a reset and a correction do to a frame: to one alone, and to one of many frames that stand side by side.
 #![tactic(auto)]
 
-ghost use Rattle.std.specs.Prelude.{◌≡◌, true, ℕ, ◌*◌, ◌<◌, ◌≤◌, length};
-ghost use Rattle.modular.specs.Modular.{Reciprocal};
+ghost use Rattle.std.specs.Prelude.{◌≡◌, true, List, ℕ, ◌+◌, ◌*◌, ◌<◌, ◌≤◌, length, get_or, set};
+ghost use Rattle.std.proofs.Math.Nat.{mod-lt};
 ghost use Rattle.modular.specs.Dimension.{listed};
 ghost use Rattle.row.specs.Row.{Powers};
-ghost use Rattle.operation.specs.declared.Operation.TheVariants.{Fourier, PhaseGate, Sum, Cz, Swap, Multiplier};
+ghost use Rattle.operation.specs.declared.Operation.TheVariants as gate;
 ghost use Rattle.operation.specs.Operation.{allowed};
-ghost use Rattle.operation.specs.Gate.{fourier_x, fourier_z, gate_powers, gate_frame};
-ghost use Rattle.operation.specs.Error.{error_allowed, error_frame};
+ghost use Rattle.operation.specs.Gate.{fourier_x, fourier_z, with_x, less_x, gate_powers, gate_frame};
+ghost use Rattle.operation.specs.Error.{error_frame};
+ghost use Rattle.operation.proofs.Gate.{fourier-powers, phase_gate-powers, sum-powers, cz-powers, swap-powers, multiplier-powers};
+ghost use Rattle.operation.proofs.Error.{error-powers};
+ghost use Rattle.operation.proofs.Stores.{powers_store};
+ghost use Rattle.frame_powers.specs.Lane.{FrameIn, ChangedIn, InverseOf};
 
+use modular::Modulus;
 use operation::{Operation, WeylError};
+
+// What is done to the frame in one of LANES lanes. Power s of the frame in lane l stands at byte LANES·s + l, and a frame alone is the only
+// lane of one.
+pub trait FrameChange<const LANES: usize>: Copy {
+    // what becomes of the powers of n qudits of dimension d
+    ghost change: { Self → ℕ → ℕ → List ℕ → List ℕ };
+
+    // the operands that it takes there
+    ghost fits: { Self → ℕ → ℕ → Type 0 };
+
+    fn change(self, v: &mut [u8], l: usize, m: Modulus, n: usize)
+        requires inside { l < LANES }
+        requires frame { FrameIn LANES m.d n l v.old }
+        requires operands { fits self m.d n }
+        ensures { ChangedIn LANES n l (change self m.d n) v.old v.new };
+
+    // Powers stay below d.
+    ghost keeps: { (x : Self) (d n : ℕ) → 0 < d → fits x d n → (F : List ℕ) → Powers d n F → Powers d n (change x d n F) };
+}
+
+// Power s of the frame in lane l.
+fn power<const LANES: usize>(v: &[u8], l: usize, s: usize) -> u8
+    requires { LANES * s + l < length v.now }
+    ensures { result ≡ get_or v.now (LANES * s + l) 0 }
+{
+    v[LANES * s + l]
+}
+
+fn store<const LANES: usize>(v: &mut [u8], l: usize, s: usize, x: u8)
+    requires { LANES * s + l < length v.old }
+    ensures { v.new ≡ set v.old (LANES * s + l) x }
+{
+    v[LANES * s + l] = x;
+}
 
 // The X power that k applications of Fourier make of the powers a and b.
 pub fn fourier_x(d: u8, k: u8, a: u8, b: u8) -> u8
@@ -38,120 +77,257 @@ pub fn fourier_z(d: u8, k: u8, a: u8, b: u8) -> u8
     }
 }
 
-fn fourier_powers(v: &mut [u8], q: usize, k: u8, d: u8, n: usize)
-    requires { (q < n)
-        × Powers d n v.old }
-    ensures { v.new ≡ gate_powers d n (Fourier q k) v.old }
-{
-    let a = v[q];
-    let b = v[n + q];
-    v[q] = fourier_x(d, k, a, b);
-    v[n + q] = fourier_z(d, k, a, b);
+#[derive(Clone, Copy)]
+pub struct Fourier {
+    pub q: usize,
+    pub times: u8,
 }
 
-fn phase_gate_powers(v: &mut [u8], q: usize, k: u8, d: u8, m: u16, n: usize)
-    requires { (q < n)
-        × (k < d)
-        × Powers d n v.old
-        × Reciprocal d m }
-    ensures { v.new ≡ gate_powers d n (PhaseGate q k) v.old }
-{
-    v[n + q] = modular::add(d, v[n + q], modular::multiple(d, m, k, v[q]));
+impl<const LANES: usize> FrameChange<LANES> for Fourier {
+    ghost change = { λ g d n. gate_powers d n (gate.Fourier g.q g.times) };
+
+    ghost fits = { λ g d n. g.q < n };
+
+    fn change(self, v: &mut [u8], l: usize, m: Modulus, n: usize) {
+        let q = self.q;
+        let z = n + q;
+        let a = power::<LANES>(v, l, q);
+        let b = power::<LANES>(v, l, z);
+        store::<LANES>(v, l, q, fourier_x(m.d, self.times, a, b));
+        store::<LANES>(v, l, z, fourier_z(m.d, self.times, a, b));
+    }
+
+    ghost keeps = { λ g d n low h F. fourier-powers d n low g.q g.times F h };
 }
 
-fn sum_powers(v: &mut [u8], c: usize, t: usize, k: u8, d: u8, m: u16, n: usize)
-    requires { (c < n)
-        × (t < n)
-        × (k < d)
-        × Powers d n v.old
-        × Reciprocal d m }
-    ensures { v.new ≡ gate_powers d n (Sum c t k) v.old }
-{
-    let x = modular::add(d, v[t], modular::multiple(d, m, k, v[c]));
-    let z = modular::subtract(d, v[n + c], modular::multiple(d, m, k, v[n + t]));
-    v[n + c] = z;
-    v[t] = x;
+#[derive(Clone, Copy)]
+pub struct PhaseGate {
+    pub q: usize,
+    pub times: u8,
 }
 
-fn cz_powers(v: &mut [u8], c: usize, t: usize, k: u8, d: u8, m: u16, n: usize)
-    requires { (c < n)
-        × (t < n)
-        × (k < d)
-        × Powers d n v.old
-        × Reciprocal d m }
-    ensures { v.new ≡ gate_powers d n (Cz c t k) v.old }
-{
-    let b = modular::add(d, v[n + c], modular::multiple(d, m, k, v[t]));
-    let z = modular::add(d, v[n + t], modular::multiple(d, m, k, v[c]));
-    v[n + c] = b;
-    v[n + t] = z;
+impl<const LANES: usize> FrameChange<LANES> for PhaseGate {
+    ghost change = { λ g d n. gate_powers d n (gate.PhaseGate g.q g.times) };
+
+    ghost fits = { λ g d n. (g.q < n) × (g.times < d) };
+
+    fn change(self, v: &mut [u8], l: usize, m: Modulus, n: usize) {
+        let z = n + self.q;
+        let a = power::<LANES>(v, l, self.q);
+        let b = power::<LANES>(v, l, z);
+        store::<LANES>(v, l, z, modular::add(m.d, b, m.multiple(self.times, a)));
+    }
+
+    ghost keeps = { λ g d n low h. phase_gate-powers d n low g.q g.times };
+}
+
+#[derive(Clone, Copy)]
+pub struct Sum {
+    pub c: usize,
+    pub t: usize,
+    pub times: u8,
+}
+
+impl<const LANES: usize> FrameChange<LANES> for Sum {
+    ghost change = { λ g d n. gate_powers d n (gate.Sum g.c g.t g.times) };
+
+    ghost fits = { λ g d n. (g.c < n) × (g.t < n) × (g.times < d) };
+
+    fn change(self, v: &mut [u8], l: usize, m: Modulus, n: usize) {
+        let (xc, xt) = (self.c, self.t);
+        let (zc, zt) = (n + xc, n + xt);
+        let gain = m.multiple(self.times, power::<LANES>(v, l, xc));
+        let loss = m.multiple(self.times, power::<LANES>(v, l, zt));
+        let x = modular::add(m.d, power::<LANES>(v, l, xt), gain);
+        let z = modular::subtract(m.d, power::<LANES>(v, l, zc), loss);
+        store::<LANES>(v, l, zc, z);
+        store::<LANES>(v, l, xt, x);
+    }
+
+    ghost keeps = { λ g d n low h. sum-powers d n low g.c g.t g.times };
+}
+
+#[derive(Clone, Copy)]
+pub struct Cz {
+    pub c: usize,
+    pub t: usize,
+    pub times: u8,
+}
+
+impl<const LANES: usize> FrameChange<LANES> for Cz {
+    ghost change = { λ g d n. gate_powers d n (gate.Cz g.c g.t g.times) };
+
+    ghost fits = { λ g d n. (g.c < n) × (g.t < n) × (g.times < d) };
+
+    fn change(self, v: &mut [u8], l: usize, m: Modulus, n: usize) {
+        let (xc, xt) = (self.c, self.t);
+        let (zc, zt) = (n + xc, n + xt);
+        let gain_c = m.multiple(self.times, power::<LANES>(v, l, xt));
+        let gain_t = m.multiple(self.times, power::<LANES>(v, l, xc));
+        let b = modular::add(m.d, power::<LANES>(v, l, zc), gain_c);
+        let z = modular::add(m.d, power::<LANES>(v, l, zt), gain_t);
+        store::<LANES>(v, l, zc, b);
+        store::<LANES>(v, l, zt, z);
+    }
+
+    ghost keeps = { λ g d n low h. cz-powers d n low g.c g.t g.times };
+}
+
+#[derive(Clone, Copy)]
+pub struct Swap {
+    pub c: usize,
+    pub t: usize,
 }
 
 // The two X powers are written together, then the two Z powers: stores near each other cost less.
+fn exchange<const LANES: usize>(v: &mut [u8], l: usize, c: usize, t: usize, n: usize)
+    requires inside { l < LANES }
+    requires room { LANES * (2 * n) ≤ length v.old }
+    requires first { c < n }
+    requires second { t < n }
+    ensures { (d : ℕ) → ChangedIn LANES n l (gate_powers d n (gate.Swap c t)) v.old v.new }
+{
+    let (zc, zt) = (n + c, n + t);
+    let a = power::<LANES>(v, l, c);
+    let x = power::<LANES>(v, l, t);
+    let b = power::<LANES>(v, l, zc);
+    let z = power::<LANES>(v, l, zt);
+    store::<LANES>(v, l, c, x);
+    store::<LANES>(v, l, t, a);
+    store::<LANES>(v, l, zc, z);
+    store::<LANES>(v, l, zt, b);
+}
+
+impl<const LANES: usize> FrameChange<LANES> for Swap {
+    ghost change = { λ g d n. gate_powers d n (gate.Swap g.c g.t) };
+
+    ghost fits = { λ g d n. (g.c < n) × (g.t < n) };
+
+    fn change(self, v: &mut [u8], l: usize, m: Modulus, n: usize) {
+        exchange::<LANES>(v, l, self.c, self.t, n);
+    }
+
+    ghost keeps = { λ g d n low h F. swap-powers d n low g.c g.t F h.0 h.1 };
+}
+
+// `inverse` is that of u modulo d.
+#[derive(Clone, Copy)]
+pub struct Multiplier {
+    pub q: usize,
+    pub u: u8,
+    pub inverse: u8,
+}
+
+impl<const LANES: usize> FrameChange<LANES> for Multiplier {
+    ghost change = { λ g d n. gate_powers d n (gate.Multiplier g.q g.u) };
+
+    ghost fits = { λ g d n. (g.q < n) × InverseOf d g.u g.inverse };
+
+    fn change(self, v: &mut [u8], l: usize, m: Modulus, n: usize) {
+        let q = self.q;
+        let z = n + q;
+        let a = m.mul(power::<LANES>(v, l, q), self.u);
+        let b = m.mul(power::<LANES>(v, l, z), self.inverse);
+        store::<LANES>(v, l, q, a);
+        store::<LANES>(v, l, z, b);
+    }
+
+    ghost keeps = { λ g d n low h. multiplier-powers d n low g.q g.u };
+}
+
+// A reset of qudit q: its X power is lost.
+#[derive(Clone, Copy)]
+pub struct Reset {
+    pub q: usize,
+}
+
+impl<const LANES: usize> FrameChange<LANES> for Reset {
+    ghost change = { λ g d n. with_x g.q 0 };
+
+    ghost fits = { λ g d n. g.q < n };
+
+    fn change(self, v: &mut [u8], l: usize, m: Modulus, n: usize) {
+        store::<LANES>(v, l, self.q, 0);
+    }
+
+    ghost keeps = { λ g d n low h F p. powers_store g.q p low };
+}
+
+// A correction of qudit q: its X power loses the shift.
+#[derive(Clone, Copy)]
+pub struct Correction {
+    pub q: usize,
+    pub shift: u8,
+}
+
+impl<const LANES: usize> FrameChange<LANES> for Correction {
+    ghost change = { λ c d n. less_x d c.q c.shift };
+
+    ghost fits = { λ c d n. (c.q < n) × (c.shift < d) };
+
+    fn change(self, v: &mut [u8], l: usize, m: Modulus, n: usize) {
+        let x = power::<LANES>(v, l, self.q);
+        store::<LANES>(v, l, self.q, modular::subtract(m.d, x, self.shift));
+    }
+
+    ghost keeps = { λ g d n low h F p. powers_store g.q p (mod-lt _ low) };
+}
+
+impl<const LANES: usize> FrameChange<LANES> for WeylError {
+    ghost change = { λ e d n. error_frame d n e };
+
+    ghost fits = { λ e d n. (e.qudit < n) × (e.p < d) × (e.s < d) };
+
+    fn change(self, v: &mut [u8], l: usize, m: Modulus, n: usize) {
+        let q = self.qudit;
+        let at = n + q;
+        let x = modular::add(m.d, power::<LANES>(v, l, q), self.p);
+        let z = modular::add(m.d, power::<LANES>(v, l, at), self.s);
+        store::<LANES>(v, l, q, x);
+        store::<LANES>(v, l, at, z);
+    }
+
+    ghost keeps = { λ e d n low h F. error-powers d n e F low };
+}
+
+// The change of a frame alone.
+pub fn change_frame<C: FrameChange<1>>(frame: &mut [u8], change: C, m: Modulus, n: usize)
+    requires frame { Powers m.d n frame.old }
+    requires operands { C.fits change m.d n }
+    ensures changed { frame.new ≡ C.change change m.d n frame.old }
+    ensures frame { Powers m.d n frame.new }
+{
+    change.change(frame, 0, m, n);
+}
+
+// Swap on a row's powers, or on any other list of bytes that begins with 2n of them.
 pub fn swap_powers(v: &mut [u8], c: usize, t: usize, n: usize)
     requires { (c < n)
         × (t < n)
         × (2 * n ≤ length v.old) }
-    ensures { (d : ℕ) → v.new ≡ gate_powers d n (Swap c t) v.old }
+    ensures { (d : ℕ) → v.new ≡ gate_powers d n (gate.Swap c t) v.old }
 {
-    let a = v[c];
-    let x = v[t];
-    let b = v[n + c];
-    let z = v[n + t];
-    v[c] = x;
-    v[t] = a;
-    v[n + c] = z;
-    v[n + t] = b;
-}
-
-fn multiplier_powers(v: &mut [u8], q: usize, u: u8, d: u8, m: u16, n: usize)
-    requires { (q < n)
-        × (u < d)
-        × (listed d ≡ true)
-        × Powers d n v.old
-        × Reciprocal d m }
-    ensures { v.new ≡ gate_powers d n (Multiplier q u) v.old }
-{
-    let a = v[q];
-    let b = v[n + q];
-    let w = inverse::inverse(d, u);
-    v[q] = modular::mul(d, m, a, u);
-    v[n + q] = modular::mul(d, m, b, w);
+    exchange::<1>(v, 0, c, t, n);
 }
 
 // The gate on a frame. Measurement, reset and correction are no gates, and leave it.
-pub fn gate_frame(frame: &mut [u8], operation: Operation, d: u8, m: u16, n: usize)
-    requires { (listed d ≡ true)
-        × (allowed d n operation ≡ true)
-        × Powers d n frame.old
-        × Reciprocal d m }
-    ensures { (frame.new ≡ gate_frame d n operation frame.old)
-        × Powers d n frame.new }
+pub fn gate_frame(frame: &mut [u8], operation: Operation, m: Modulus, n: usize)
+    requires dimension { listed m.d ≡ true }
+    requires operation { allowed m.d n operation ≡ true }
+    requires frame { Powers m.d n frame.old }
+    ensures changed { frame.new ≡ gate_frame m.d n operation frame.old }
+    ensures frame { Powers m.d n frame.new }
 {
     match operation {
-        Operation::Fourier { q, times } => fourier_powers(frame, q, times, d, n),
-        Operation::PhaseGate { q, times } => phase_gate_powers(frame, q, times, d, m, n),
-        Operation::Sum { c, t, times } => sum_powers(frame, c, t, times, d, m, n),
-        Operation::Cz { c, t, times } => cz_powers(frame, c, t, times, d, m, n),
-        Operation::Swap { c, t } => swap_powers(frame, c, t, n),
-        Operation::Multiplier { q, u } => multiplier_powers(frame, q, u, d, m, n),
-        Operation::Measure { q: _ } => {}
-        Operation::Reset { q: _ } => {}
-        Operation::Correct { t: _, m: _ } => {}
+        Operation::Fourier { q, times } => change_frame(frame, Fourier { q, times }, m, n),
+        Operation::PhaseGate { q, times } => change_frame(frame, PhaseGate { q, times }, m, n),
+        Operation::Sum { c, t, times } => change_frame(frame, Sum { c, t, times }, m, n),
+        Operation::Cz { c, t, times } => change_frame(frame, Cz { c, t, times }, m, n),
+        Operation::Swap { c, t } => change_frame(frame, Swap { c, t }, m, n),
+        Operation::Multiplier { q, u } => {
+            let inverse = inverse::inverse(m.d, u);
+            change_frame(frame, Multiplier { q, u, inverse }, m, n);
+        }
+        Operation::Measure { .. } | Operation::Reset { .. } | Operation::Correct { .. } => {}
     }
-}
-
-// The error on a frame.
-pub fn error_frame(frame: &mut [u8], e: WeylError, d: u8, n: usize)
-    requires { (d ≤ 31)
-        × (error_allowed d n e ≡ true)
-        × Powers d n frame.old }
-    ensures { (frame.new ≡ error_frame d n e frame.old)
-        × Powers d n frame.new }
-{
-    let q = e.qudit;
-    let x = modular::add(d, frame[q], e.p);
-    let z = modular::add(d, frame[n + q], e.s);
-    frame[q] = x;
-    frame[n + q] = z;
 }

@@ -1,5 +1,7 @@
 -- The frame run of a book: what is returned, and what is left in the buffers.
-use Rattle.std.specs.Prelude.{Bool, ◌&&◌, List, ℕ, ◌*◌, ◌≤◌, leb, length}
+use Rattle.std.specs.Prelude.{Bool, ◌&&◌, List, ℕ, ◌*◌, ◌≤◌, leb, length, Result, Ok, Err}
+use Rattle.answer.specs.declared.Refusal.{Refusal}
+use Rattle.answer.specs.Refusal.{number_of, place_of}
 use Rattle.search.specs.Search.{unless}
 use Rattle.saved_tableau.specs.Saved.{rows_in, with_rows, tableau_bytes, valid_for}
 use Rattle.book_body.specs.Body.{ReaderAnswer, refused, accepted}
@@ -30,6 +32,15 @@ pub record FrameLeft : Type 0 where
 abbrev pub end_of : FrameAnswer → (rows results shifts frame : List ℕ) → FrameEnd
 end_of answer rows results shifts frame =
     record { rows = rows; results = results; shifts = shifts; frame = frame; verdict = answer.verdict }
+
+-- A refusal's third number is 0.
+abbrev pub refusal : Refusal → FrameAnswer
+refusal r = record { number = number_of r; place = place_of r; verdict = 0 }
+
+-- the answer of a run that may refuse
+abbrev pub answered : Result FrameAnswer Refusal → FrameAnswer
+answered (Ok answer) = answer
+answered (Err r) = refusal r
 
 -- an answer, with what the lent buffers hold when it is given
 abbrev pub frame_left : FrameAnswer → Buffers → FrameLeft

@@ -8,9 +8,10 @@ ghost use Rattle.circuit.specs.Circuit.{measurement_count};
 ghost use Rattle.book.specs.Decoded.{operations_of, errors_of, Bodies};
 ghost use Rattle.runs.specs.Direct.{state_of};
 ghost use Rattle.runs.specs.Frame.{no_frame, frame_run};
-ghost use Rattle.frame_run.specs.FrameBook.{buffers_of, end_of, frame_left, frame_buffers_fit, Room, frame_bodies, frame_book};
+ghost use Rattle.frame_run.specs.FrameBook.{refusal, answered, buffers_of, end_of, frame_left, frame_buffers_fit, Room, frame_bodies, frame_book};
 
-use book_body::Reading;
+use answer::Refusal;
+use book::Circuit;
 
 // What the frame run returns: 0, the number of measurements and the verdict, 0 clean or 1 shifted; or a refusal's number, its
 // place and 0.
@@ -22,13 +23,15 @@ pub struct FrameAnswer {
     pub verdict: usize,
 }
 
-fn refused(number: usize, place: usize) -> FrameAnswer
-    ensures { result ≡ record { number = number; place = place; verdict = 0 } }
-{
-    FrameAnswer {
-        number,
-        place,
-        verdict: 0,
+impl From<Refusal> for FrameAnswer {
+    ghost from_gives = { λ r a. a ≡ refusal r };
+
+    fn from(refusal: Refusal) -> FrameAnswer {
+        FrameAnswer {
+            number: refusal.number(),
+            place: refusal.place(),
+            verdict: 0,
+        }
     }
 }
 
@@ -55,8 +58,15 @@ fn run_in(
         × (result.number ≡ 0)
         × (result.place ≡ measurement_count (operations_of d n ops.now)) }
 {
-    let place = clean_run::run(rows, results, ops, choices, d, n);
-    frame_carry::carry(frame, results, ops, errors, d, n);
+    let circuit = Circuit {
+        ops,
+        errors,
+        choices,
+        d,
+        n,
+    };
+    let place = clean_run::run(rows, results, &circuit);
+    frame_carry::carry(frame, results, &circuit);
     let verdict = frame_end::finish(rows, shifts, out, frame, d, n);
     FrameAnswer {
         number: 0,
@@ -102,6 +112,7 @@ fn run(
 }
 
 // Whether each buffer is as long as it must be.
+#[tactic(auto, using(measure_step::proofs::Room::halves), unfolding(crate::specs::FrameBook::frame_buffers_fit))]
 fn buffers_fit(
     t: &[u8],
     results: &[u8],
@@ -120,6 +131,33 @@ fn buffers_fit(
 
 // The frame run of a book from the lent tableau: refusals 1 to 7, then 8, then 9; or 0, the number of measurements and
 // the verdict.
+#[tactic(auto, unfolding(crate::specs::FrameBook::frame_by_answer, crate::specs::FrameBook::frame_book))]
+pub fn run_or_refuse(
+    book: &[u8],
+    t: &mut [u8],
+    results: &mut [u8],
+    shifts: &mut [u8],
+    frame: &mut [u8],
+) -> Result<FrameAnswer, Refusal>
+    ensures { frame_left (answered result) (buffers_of t.new results.new shifts.new frame.new)
+        ≡ frame_book book.now (buffers_of t.old results.old shifts.old frame.old) }
+{
+    let numbers = book::read(book)?;
+    let d = numbers.d;
+    let n = numbers.n;
+    if !buffers_fit(t, results, shifts, frame, numbers.measurements, n) {
+        return Err(Refusal::Length);
+    }
+    if !tableau_calls::is_valid_for(t, d, n) {
+        return Err(Refusal::Rows);
+    }
+    let ops = book::operations(book);
+    let errors = book::errors(book);
+    let choices = book::choices(book);
+    Ok(run(t, results, shifts, frame, ops, errors, choices, d, n))
+}
+
+// The same, with a refusal as three numbers.
 pub fn frame_run(
     book: &[u8],
     t: &mut [u8],
@@ -130,23 +168,5 @@ pub fn frame_run(
     ensures { frame_left result (buffers_of t.new results.new shifts.new frame.new)
         ≡ frame_book book.now (buffers_of t.old results.old shifts.old frame.old) }
 {
-    let reading = book::read(book);
-    let numbers = match reading {
-        Reading::Accepted(numbers) => numbers,
-        Reading::Refused { number, place } => {
-            return refused(casts::byte_as_usize(number), place);
-        }
-    };
-    let d = numbers.d;
-    let n = numbers.n;
-    if !buffers_fit(t, results, shifts, frame, numbers.measurements, n) {
-        return refused(8, 0);
-    }
-    if !tableau_calls::is_valid_for(t, d, n) {
-        return refused(9, 0);
-    }
-    let ops = book::operations(book);
-    let errors = book::errors(book);
-    let choices = book::choices(book);
-    run(t, results, shifts, frame, ops, errors, choices, d, n)
+    run_or_refuse(book, t, results, shifts, frame).unwrap_or_else(FrameAnswer::from)
 }

@@ -1,4 +1,3 @@
 -- What the proofs of several functions use.
 pub mod Phases
-pub mod Numbers
 pub mod Rows

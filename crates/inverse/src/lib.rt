@@ -2,22 +2,24 @@
 #![tactic(auto)]
 
 ghost use Rattle.std.specs.Prelude.{◌≡◌, ◌<◌, ◌≤◌};
-ghost use Rattle.modular.specs.Modular.{Reciprocal};
 ghost use Rattle.modular.specs.Dimension.{power_of, inverse};
 
-// u to the power k, by squares: 7 products for an inverse modulo 31, and not 29.
-fn power(d: u8, m: u16, u: u8, k: u8) -> u8
-    requires { (u < d)
-        × Reciprocal d m }
-    ensures { result ≡ power_of d u k }
+use modular::Modulus;
+
+// u to the power k, by squares: 7 products for an inverse modulo 31, and not 29. The loop counts no index: it halves the exponent that is
+// left.
+fn power(m: Modulus, u: u8, k: u8) -> u8
+    requires low { 3 ≤ m.d }
+    requires below { u < m.d }
+    ensures { result ≡ power_of m.d u k }
 {
     let mut x = if k % 2 == 1 { u } else { 1 };
     let mut s = u;
     let mut j = k / 2;
     while j > 0 {
-        s = modular::mul(d, m, s, s);
+        s = m.mul(s, s);
         if j % 2 == 1 {
-            x = modular::mul(d, m, x, s);
+            x = m.mul(x, s);
         }
         j /= 2;
     }
@@ -33,5 +35,5 @@ pub fn inverse(d: u8, u: u8) -> u8
     if u >= d {
         return 0;
     }
-    power(d, modular::reciprocal(d), u, d - 2)
+    power(Modulus::new(d), u, d - 2)
 }

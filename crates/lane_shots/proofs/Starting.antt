@@ -5,7 +5,7 @@ use mathlib.Core.List.{List}
 use Prim.Native.Nat.{ℕ, zero, suc, ◌+◌, ◌*◌, ◌%◌, ◌<◌, ◌≤◌}
 use native.Mathlib.Decide.{ℕ_discrete}
 use native.Mathlib.Omega.{arith}
-use lib.ListN.{length, get_or, set, length-set, length-replicate}
+use lib.ListN.{length, get_or, set, length-replicate}
 use lib.Seq.{get_or-set_same, get_or-set_other, ext_get_or}
 use Rattle.modular.specs.Dimension.{Dimension}
 use Rattle.row.proofs.Fill.{tab-length, tab-get}
@@ -13,6 +13,7 @@ use Rattle.operation.specs.declared.WeylError.{WeylError}
 use Rattle.runs.proofs.Frames.{no-frame}
 use Rattle.lanes.specs.Lanes.{power_at, lane, Lanes}
 use Rattle.calendar.specs.Calendar.{waiting, Queued}
+use Rattle.calendar.specs.declared.Queue.{Queue}
 use Rattle.block.specs.Block.{NoFrames}
 use Rattle.lane_shots.specs.LaneShots.{blank, AllQueued}
 
@@ -33,22 +34,18 @@ queued-more slots k x low q h l g = by (ℕ_discrete l k)
     by (yes e) = rw e (get_or-set_same slots k x 0 low ∙ q)
     by (no e) = get_or-set_other slots k l x 0 e ∙ h l (omega arith)
 
-pub all-queued : {slots counts : List ℕ} → length slots ≡ 65536 → ((l : ℕ) → l < 256 → get_or slots l 0 ≡ l) → counts ≡ blank 256
-    → AllQueued slots (set counts 0 256)
-all-queued {slots} {counts} room lanes e =
-    record {
-      slots_room = room;
-      lanes = lanes;
-      counts-room = length-set counts 0 256 ∙ len;
-      first = get_or-set_same counts 0 256 0 (omega (arith, len));
-      others = λ r h. get_or-set_other counts 0 r 256 0 (λ z. absurd (omega arith)) ∙ zero-at r;
-    }
-  where
-    len : length counts ≡ 256
-    len = ap length e ∙ blank-length 256
+zeros-elsewhere : (counts : List ℕ) → counts ≡ blank 256 → (r : ℕ) → 0 < r → get_or (set counts 0 256) r 0 ≡ 0
+zeros-elsewhere counts e r h = get_or-set_other counts 0 r 256 0 (λ z. absurd (omega arith)) ∙ rw e (zeros 256 r)
 
-    zero-at : (r : ℕ) → get_or counts r 0 ≡ 0
-    zero-at r = rw e (zeros 256 r)
+pub all-queued : {queue : Queue} → ((l : ℕ) → l < 256 → get_or queue.slots l 0 ≡ l) → queue.counts ≡ blank 256 → queue.cursors ≡ blank 256
+    → AllQueued (record queue { counts = set queue.counts 0 256 })
+all-queued {queue} lanes e none =
+    record {
+      lanes = lanes;
+      first = get_or-set_same queue.counts 0 256 0 (omega (arith, ap length e, blank-length 256));
+      others = zeros-elsewhere queue.counts e;
+      none_taken = none;
+    }
 
 waiting_none : (counts : List ℕ) → waiting counts 0 ≡ 0
 unfolding waiting
@@ -58,18 +55,15 @@ waiting-more : (counts : List ℕ) (k : ℕ) → waiting counts (suc k) ≡ wait
 unfolding waiting
 waiting-more counts k = refl
 
-waiting-one : {slots counts : List ℕ} → AllQueued slots counts → (k : ℕ) → waiting counts (suc k) ≡ 256
-waiting-one {slots} {counts} h zero = omega (arith, waiting-more counts 0, waiting_none counts, h.first)
-waiting-one {slots} {counts} h (suc k) = omega (arith, waiting-more counts (suc k), waiting-one h k, h.others (suc k) (omega arith))
+waiting-one : {queue : Queue} → AllQueued queue → (k : ℕ) → waiting queue.counts (suc k) ≡ 256
+waiting-one {queue} h zero = omega (arith, waiting-more queue.counts 0, waiting_none queue.counts, h.first)
+waiting-one {queue} h (suc k) = omega (arith, waiting-more queue.counts (suc k), waiting-one h k, h.others (suc k) (omega arith))
 
-pub queued-start : (E : ℕ → List WeylError) {slots counts cursors : List ℕ} → AllQueued slots counts → cursors ≡ blank 256 → Queued E slots counts cursors 0
-queued-start E {slots} {counts} {cursors} h e =
+pub queued-start : (E : ℕ → List WeylError) {queue : Queue} → AllQueued queue → Queued E queue 0
+queued-start E {queue} h =
     record {
-      slots_room = h.slots_room;
-      counts-room = h.counts-room;
-      cursors_room = ap length e ∙ blank-length 256;
       few = omega (arith, waiting-one h 255);
-      reached = λ l g. rw (e, zeros 256 l) (record { inside = omega arith; spent = λ i z. absurd (omega arith); left = λ i a b. omega arith });
+      reached = λ l g. rw (h.none_taken, zeros 256 l) (record { inside = omega arith; spent = λ i z. absurd (omega arith); left = λ i a b. omega arith });
       pending = λ l g z. record {
         at = 0;
         from = omega arith;

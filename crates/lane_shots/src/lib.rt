@@ -1,107 +1,56 @@
 // A block of up to 256 shots, one in each lane: their bytes and their verdicts, from the clean run.
 #![tactic(auto)]
 
-ghost use Rattle.std.specs.Prelude.{◌≡◌, length};
-ghost use Rattle.tile.specs.Tile.{TileRoom, ShotsRoom};
-ghost use Rattle.calendar.specs.LaneErrors.{LaneBodies};
-ghost use Rattle.lane_shots.specs.LaneShots.{blank, NewLanes, AllQueued, CleanShots, LaneRows, shifted_in_lanes};
+ghost use Rattle.std.specs.Prelude.{◌≡◌};
+ghost use Rattle.tile.specs.Tile.{ShotsRoom};
+ghost use Rattle.block.specs.Clean.{CleanShots};
+ghost use Rattle.lane_shots.specs.LaneShots.{blank, AllQueued, LaneRows, shifted_in_lanes};
+
+use block::{Block, CleanRun};
+use calendar::{LaneErrors, Queue};
+use tile::{HeldResults, Tile};
 
 // Every lane stands in the list of place 0.
-fn enqueue_all(slots: &mut [u8], counts: &mut [usize])
-    requires { (length slots.old ≡ 65536)
-        × (counts.old ≡ blank 256) }
-    ensures { AllQueued slots.new counts.new }
+fn enqueue_all(queue: &mut Queue)
+    requires empty { queue.old.counts ≡ blank 256 }
+    requires none_taken { queue.old.cursors ≡ blank 256 }
+    ensures { AllQueued queue.new }
 {
-    let mut l = 0;
-    while l < 256 {
-        slots[l] = (l % 256) as u8;
-        l += 1;
+    for l in 0..256 {
+        queue.slots[l] = l as u8;
     }
-    counts[0] = 256;
+    queue.counts[0] = 256;
 }
 
-// One block in lent buffers: the bytes of its first `used` lanes. How many of them are shifted is returned.
-fn fill_in(
-    out: &mut [u8],
-    v: &mut [u8],
-    slots: &mut [u8],
-    counts: &mut [usize],
-    cursors: &mut [usize],
-    tile: &mut [u8],
-    spare: &mut [u8],
-    marks: &mut [u8],
-    tray: &[u8],
-    starts: &[usize],
-    sizes: &[usize],
-    ops: &[u8],
-    clean: &[u8],
-    t: &[u8],
-    w: usize,
-    used: usize,
-    d: u8,
-    n: usize,
-) -> usize
-    requires { NewLanes v.old slots.old counts.old cursors.old
-        × TileRoom tile.old spare.old marks.old
-        × LaneBodies d n tray.now starts.now sizes.now
-        × CleanShots d n ops.now clean.now t.now w
-        × ShotsRoom w used out.old }
-    ensures { LaneRows d n ops.now clean.now t.now tray.now starts.now sizes.now w used out.old out.new
-        × (result ≡ shifted_in_lanes d n ops.now clean.now t.now tray.now starts.now sizes.now used) }
+// The bytes of the first `used` shots, with room of its own for the frames, their queue and their results. How many shots are shifted is
+// returned.
+pub fn fill(out: &mut [u8], clean: &CleanRun, errors: &LaneErrors, used: usize) -> usize
+    requires dimension { errors.now.m.d ≡ clean.now.m.d }
+    requires qudits { errors.now.n ≡ clean.now.n }
+    requires clean_run { CleanShots clean.now.m.d clean.now.n clean.now.ops.now clean.now.results.now clean.now.t.now clean.now.w }
+    requires shots { ShotsRoom clean.now.w used out.old }
+    ensures rows { LaneRows clean.now errors.now used out.old out.new }
+    ensures shifted { result ≡ shifted_in_lanes clean.now errors.now used }
 {
-    enqueue_all(slots, counts);
-    block::run(
-        out, v, slots, counts, cursors, tile, spare, marks, tray, starts, sizes, ops, clean, w,
-        used, d, n,
-    );
-    verdicts::write_verdicts(out, v, t, w, used, d, n)
-}
-
-// One block, with buffers of its own for the lanes, their calendar and their results.
-pub fn fill(
-    out: &mut [u8],
-    tray: &[u8],
-    starts: &[usize],
-    sizes: &[usize],
-    ops: &[u8],
-    clean: &[u8],
-    t: &[u8],
-    w: usize,
-    used: usize,
-    d: u8,
-    n: usize,
-) -> usize
-    requires { LaneBodies d n tray.now starts.now sizes.now
-        × CleanShots d n ops.now clean.now t.now w
-        × ShotsRoom w used out.old }
-    ensures { LaneRows d n ops.now clean.now t.now tray.now starts.now sizes.now w used out.old out.new
-        × (result ≡ shifted_in_lanes d n ops.now clean.now t.now tray.now starts.now sizes.now used) }
-{
-    let mut v = [0u8; 32768];
-    let mut slots = [0u8; 65536];
-    let mut counts = [0usize; 256];
-    let mut cursors = [0usize; 256];
-    let mut tile = [0u8; 4096];
-    let mut spare = [0u8; 4096];
-    let mut marks = [0u8; 16];
-    fill_in(
-        out,
-        &mut v,
-        &mut slots,
-        &mut counts,
-        &mut cursors,
-        &mut tile,
-        &mut spare,
-        &mut marks,
-        tray,
-        starts,
-        sizes,
-        ops,
-        clean,
-        t,
-        w,
+    let mut block = Block {
+        lanes: [0; 32768],
         used,
-        d,
-        n,
-    )
+        queue: Queue {
+            slots: [0; 65536],
+            counts: [0; 256],
+            cursors: [0; 256],
+        },
+        held: HeldResults {
+            tile: Tile {
+                cells: [0; 4096],
+                spare: [0; 4096],
+            },
+            marks: [0; 16],
+            first: 0,
+            count: 0,
+        },
+    };
+    enqueue_all(&mut block.queue);
+    block.run(out, clean, errors);
+    verdicts::write_verdicts(out, &block.lanes, clean.t, clean.w, used, clean.m, clean.n)
 }

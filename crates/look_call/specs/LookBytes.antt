@@ -1,5 +1,7 @@
 -- A look takes the tableau and a qudit, and tells whether a measurement there would be free, or certain and with which outcome.
-use Rattle.std.specs.Prelude.{List, ℕ, eqb, ltb}
+use Rattle.std.specs.Prelude.{List, ℕ, Result, Ok, Err, eqb, ltb}
+use Rattle.answer.specs.declared.Refusal.{Refusal}
+use Rattle.answer.specs.Refusal.{number_of}
 use Rattle.search.specs.Search.{unless}
 use Rattle.saved_tableau.specs.Saved.{dimension_in, qudits_in, rows_in}
 use Rattle.saved_tableau.specs.Test.{test_number}
@@ -15,6 +17,11 @@ told (Certain outcome) = record { number = 0; free = 0; outcome = outcome }
 
 abbrev pub look_refused : (number : ℕ) → LookAnswer
 look_refused number = record { number = number; free = 0; outcome = 0 }
+
+-- what a look that may refuse returns
+abbrev pub look_answered : Result Look Refusal → LookAnswer
+look_answered (Ok l) = told l
+look_answered (Err r) = look_refused (number_of r)
 
 -- Checked as in the tableau test; 13, with 0, when the qudit looked at is not below n, is tested last. Looking changes no byte: the tableau
 -- is lent for reading alone.

@@ -1,13 +1,11 @@
 // The look at a qudit of a lent tableau.
 #![tactic(auto)]
 
-ghost use Rattle.std.specs.Prelude.{◌≡◌, true, ◌<◌, ◌≤◌, length};
-ghost use Rattle.modular.specs.Dimension.{listed};
-ghost use Rattle.validity.specs.Validity.{Valid};
-ghost use Rattle.saved_tableau.specs.Saved.{rows_in};
-ghost use Rattle.measurement.specs.Look.{look};
-ghost use Rattle.look_call.specs.LookBytes.{told, look_bytes};
+ghost use Rattle.std.specs.Prelude.{◌≡◌};
+ghost use Rattle.answer.specs.Refusal.{number_of};
+ghost use Rattle.look_call.specs.LookBytes.{told, look_refused, look_answered, look_bytes};
 
+use answer::Refusal;
 use measurement::Look;
 
 // What a look returns: 0, then 1 and 0 if a measurement would be free, 0 and the outcome if it would be certain; or a refusal's number, 0
@@ -20,52 +18,53 @@ pub struct LookAnswer {
     pub outcome: usize,
 }
 
-fn refused(number: usize) -> LookAnswer
-    ensures { result ≡ record { number = number; free = 0; outcome = 0 } }
-{
-    LookAnswer {
-        number,
-        free: 0,
-        outcome: 0,
+impl From<Look> for LookAnswer {
+    ghost from_gives = { λ seen a. a ≡ told seen };
+
+    fn from(seen: Look) -> LookAnswer {
+        let (free, outcome) = match seen {
+            Look::Free { .. } => (1, 0),
+            Look::Certain { outcome } => (0, usize::from(outcome)),
+        };
+        LookAnswer {
+            number: 0,
+            free,
+            outcome,
+        }
     }
 }
 
-// What a look at the rows behind the first two bytes tells.
-fn look_rows(t: &[u8], q: usize, d: u8, n: usize) -> LookAnswer
-    requires { (listed d ≡ true)
-        × (q < n)
-        × (n ≤ 64)
-        × (2 ≤ length t.now)
-        × Valid d n (rows_in t.now) }
-    ensures { result ≡ told (look d n (rows_in t.now) q) }
-{
-    let seen = measurement_look::look_at(&t[2..], q, d, n);
-    match seen {
-        Look::Free { pivot: _ } => LookAnswer {
-            number: 0,
-            free: 1,
-            outcome: 0,
-        },
-        Look::Certain { outcome } => LookAnswer {
-            number: 0,
+impl From<Refusal> for LookAnswer {
+    ghost from_gives = { λ r a. a ≡ look_refused (number_of r) };
+
+    fn from(refusal: Refusal) -> LookAnswer {
+        LookAnswer {
+            number: refusal.number(),
             free: 0,
-            outcome: casts::byte_as_usize(outcome),
-        },
+            outcome: 0,
+        }
     }
 }
 
-// Looks at a qudit: refusals 8, 2, 3, 8 and 9 as the tableau test, then 13; or what its measurement would be.
+// A look at a qudit: refusals 8, 2, 3, 8 and 9 as the tableau test, then 13.
+fn look_or_refuse(t: &[u8], qudit: usize) -> Result<Look, Refusal>
+    ensures { look_answered result ≡ look_bytes t.now qudit }
+{
+    tableau_calls::tested(t)?;
+    let d = t[0];
+    let n = usize::from(t[1]);
+    if qudit >= n {
+        return Err(Refusal::Number);
+    }
+    Ok(measurement_look::look_at(&t[2..], qudit, d, n))
+}
+
+// What a measurement of the qudit would be, or the refusal.
 pub fn look(t: &[u8], qudit: usize) -> LookAnswer
     ensures { result ≡ look_bytes t.now qudit }
 {
-    let test = tableau_calls::test(t);
-    if test.number != 0 {
-        return refused(test.number);
+    match look_or_refuse(t, qudit) {
+        Ok(seen) => LookAnswer::from(seen),
+        Err(refusal) => LookAnswer::from(refusal),
     }
-    let d = t[0];
-    let n = casts::byte_as_usize(t[1]);
-    if qudit >= n {
-        return refused(13);
-    }
-    look_rows(t, qudit, d, n)
 }

@@ -1,6 +1,7 @@
 -- What is seen fits: the pivot of a free measurement is one of the n stabilizers, and a certain outcome is below d. A free
 -- measurement by a seen pivot leaves a valid tableau.
 -- Assumes nothing.
+use Rattle.std.proofs.Common.{Option, Some, None}
 use mathlib.Core.Path.{◌≡◌, refl, subst}
 use mathlib.Core.List.{List}
 use Prim.Native.Nat.{ℕ, ◌<◌}
@@ -10,8 +11,6 @@ use Rattle.modular.proofs.Residue.{neg-less}
 use Rattle.row.specs.Row.{phase_of}
 use Rattle.operation.specs.Error.{error_rows, minus_x}
 use Rattle.operation.proofs.Error.{minus-allowed}
-use Rattle.search.specs.declared.Place.{Place}
-use Rattle.search.specs.declared.Place.TheVariants.{At, Nowhere}
 use Rattle.search.proofs.Search.{found_fails}
 use Rattle.validity.specs.Validity.{Valid}
 use Rattle.measurement.specs.declared.Look.{Look}
@@ -29,9 +28,9 @@ pub look-fits : (d n : ℕ) (t : List ℕ) (q : ℕ) {seen : Look} → 0 < d →
 unfolding look pivot_of
 look-fits d n t q h e = subst (LookFits d n) e (by (pivot_of n t q) refl)
   where
-    by : (p : Place) → pivot_of n t q ≡ p → LookFits d n (look_by d n t q p)
-    by (At k) e = (found_fails (commutes n t q) n k e).0
-    by Nowhere e = neg-less d (phase_of n (weighted d n t q)) h
+    by : (p : Option ℕ) → pivot_of n t q ≡ p → LookFits d n (look_by d n t q p)
+    by (Some k) e = (found_fails (commutes n t q) n k e).0
+    by None e = neg-less d (phase_of n (weighted d n t q)) h
 
 pub collapse-valid : {d n q k m : ℕ} {t' : List ℕ} → Dimension d → (t : List ℕ) → Valid d n t → q < n → m < d
     → look d n t q ≡ Free k

@@ -1,10 +1,8 @@
 -- The look at qudit q: is its measurement free, or certain with which outcome?
-use Rattle.std.specs.Prelude.{Bool, List, ℕ, zero, suc, ◌+◌, eqb}
+use Rattle.std.specs.Prelude.{Bool, List, ℕ, zero, suc, ◌+◌, eqb, Option, Some, None}
 use Rattle.modular.specs.Modular.{neg}
 use Rattle.row.specs.Row.{x_of, phase_of, product, power}
 use Rattle.row_laws.specs.Scalar.{scalar}
-use Rattle.search.specs.declared.Place.{Place}
-use Rattle.search.specs.declared.Place.TheVariants.{At, Nowhere}
 use Rattle.search.specs.Search.{first_not}
 use Rattle.tableau.specs.Tableau.{row}
 use Rattle.measurement.specs.declared.Look.{Look}
@@ -21,7 +19,7 @@ stabilizer_power n t q i = x_of (row n t (n + i)) q
 abbrev pub commutes : ℕ → List ℕ → ℕ → ℕ → Bool
 commutes n t q k = eqb (stabilizer_power n t q k) 0
 
-unfoldable pub pivot_of : ℕ → List ℕ → ℕ → Place
+unfoldable pub pivot_of : ℕ → List ℕ → ℕ → Option ℕ
 pivot_of n t q = first_not (commutes n t q) n
 
 -- the product, in order of i, of the first k stabilizers, stabilizer i to the power h i
@@ -34,9 +32,9 @@ combination d n t h (suc i) = product d n (combination d n t h i) (power d n (h 
 unfoldable pub weighted : ℕ → ℕ → List ℕ → ℕ → List ℕ
 weighted d n t q = combination d n t (destabilizer_power n t q) n
 
-abbrev pub look_by : ℕ → ℕ → List ℕ → ℕ → Place → Look
-look_by d n t q (At k) = Free k
-look_by d n t q Nowhere = Certain (neg d (phase_of n (weighted d n t q)))
+abbrev pub look_by : ℕ → ℕ → List ℕ → ℕ → Option ℕ → Look
+look_by d n t q (Some k) = Free k
+look_by d n t q None = Certain (neg d (phase_of n (weighted d n t q)))
 
 unfoldable pub look : ℕ → ℕ → List ℕ → ℕ → Look
 look d n t q = look_by d n t q (pivot_of n t q)

@@ -14,14 +14,15 @@ use Rattle.row_laws.proofs.Reading.{positive}
 use Rattle.row_laws.proofs.Laws.{neutral, power_zero}
 use Rattle.measurement_collapse.specs.FreeMeasurement.{cleared}
 
--- (d − 1/e)·f is −f/e
-pub exponent : (d inv f : ℕ) → inv < d → f < d → (d - inv) * f % d ≡ neg d f * inv % d
+-- −1/e·f is −f/e
+pub exponent : (d inv f : ℕ) → inv < d → f < d → neg d inv * f % d ≡ neg d f * inv % d
 exponent d inv f a b =
     let x : (d - inv + inv) * f ≡ d * f = ap (λ (z : ℕ). z * f) (omega arith) in
     let y : (d - f + f) * inv ≡ d * inv = ap (λ (z : ℕ). z * inv) (omega arith) in
     mod_cong
+    (cong_trans (cong_mul-right f (cong_trans (cong_eq d (ap (λ (z : ℕ). (d - z) % d) (mod-eq_of_lt a))) (cong_sym (cong_mod d (d - inv)))))
     (cong_trans (record { p = inv; q = f; eq = omega arith })
-    (cong_mul-right inv (cong_trans (cong_mod d (d - f)) (cong_eq d (ap (λ (z : ℕ). (d - z) % d) (sym (mod-eq_of_lt b)))))))
+    (cong_mul-right inv (cong_trans (cong_mod d (d - f)) (cong_eq d (ap (λ (z : ℕ). (d - z) % d) (sym (mod-eq_of_lt b))))))))
 
 -- A row whose X power on q is 0 has exponent 0, and stays.
 pub stays : (d n q : ℕ) (pivot v : List ℕ) → Row d n v → x_of v q ≡ 0 → cleared d n q pivot v ≡ v

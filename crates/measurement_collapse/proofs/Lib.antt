@@ -1,4 +1,4 @@
 -- What the proofs of several functions use.
 pub mod Exponents
-pub mod Stored
 pub mod Sweep
+pub mod Powers

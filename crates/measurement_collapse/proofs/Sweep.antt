@@ -11,6 +11,7 @@ use native.Mathlib.Numerals.{add-one}
 use native.Mathlib.Omega.{arith}
 use lib.Dec.{eqb}
 use lib.ListN.{length, get_or, set, take, drop, length-append, take-append-drop, get_or-append}
+use mir.Val.{bool_byte}
 use lib.Seq.{take-suc, take-set-le, take-suc-set, get_or-append_seam, drop-drop}
 use borrow.Author.Tests.{eqb-true, eq-eqb, ne_eqb}
 use Rattle.modular.specs.Modular.{neg}
@@ -27,18 +28,22 @@ use Rattle.measurement_collapse.specs.FreeMeasurement.{cleared, row_put}
 use Rattle.measurement_collapse.specs.Changing.{selected, on_selected, is_changing}
 use Rattle.measurement_collapse.proofs.Exponents.{stays}
 
+pub one_at_most : (b : Bool) → bool_byte b ≤ 1
+one_at_most true = omega arith
+one_at_most false = omega arith
+
 module _ (test : ℕ → Bool) where
   -- one turn of a loop that lists: m is written at the end, which it moves if it is selected
   pub chosen_more :
       (m : ℕ) (l : List ℕ) (count r : ℕ) →
       count < length l →
       take count l ≡ selected test m →
-      r ≡ cond (test m) 1 0 →
+      r ≡ bool_byte (test m) →
       take (count + r) (set l count m) ≡ selected test (m + 1)
   unfolding selected
   chosen_more m l count r h e k = rw (k, add-one m) (by (test m))
     where
-      by : (b : Bool) → take (count + cond b 1 0) (set l count m) ≡ cond b (selected test m ++ (m ∷ [])) (selected test m)
+      by : (b : Bool) → take (count + bool_byte b) (set l count m) ≡ cond b (selected test m ++ (m ∷ [])) (selected test m)
       by true = rw (add-one count) (take-suc-set l count m h ∙ ap (λ (x : List ℕ). x ++ (m ∷ [])) e)
       by false =
           let q : count + 0 ≡ count = omega arith in

@@ -1,2 +1,3 @@
 pub mod FreeMeasurement
 pub mod Changing
+pub mod Clearing

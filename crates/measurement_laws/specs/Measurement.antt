@@ -1,10 +1,9 @@
 -- Demand 2 for measurements, and validity. The statements are proved in proofs/.
-use Rattle.std.specs.Prelude.{◌≡◌, ◌↔◌, List, ℕ, ◌*◌, ◌<◌, get_or}
+use Rattle.std.specs.Prelude.{◌≡◌, ◌↔◌, List, ℕ, ◌*◌, ◌<◌, get_or, None}
 use Rattle.modular.specs.Modular.{neg}
 use Rattle.modular.specs.Dimension.{Dimension}
 use Rattle.row.specs.Row.{phase_of}
 use Rattle.row.specs.Generators.{z_with}
-use Rattle.search.specs.declared.Place.TheVariants.{Nowhere}
 use Rattle.validity.specs.Validity.{Valid}
 use Rattle.measurement.specs.declared.Look.TheVariants.{Free, Certain}
 use Rattle.measurement.specs.Look.{pivot_of, combination, weighted, look}
@@ -24,7 +23,7 @@ CollapseKeepsValid = (d n : ℕ) → Dimension d → (t : List ℕ) → Valid d 
 
 -- In a valid tableau the weighted product of a certain measurement always is Z on that qudit with some phase.
 abbrev pub CertainIsZ : Type 0
-CertainIsZ = (d n : ℕ) → Dimension d → (t : List ℕ) → Valid d n t → (q : ℕ) → q < n → pivot_of n t q ≡ Nowhere
+CertainIsZ = (d n : ℕ) → Dimension d → (t : List ℕ) → Valid d n t → (q : ℕ) → q < n → pivot_of n t q ≡ None
     → weighted d n t q ≡ z_with n q (phase_of n (weighted d n t q))
 
 -- A measurement is certain exactly if the stabilizer set holds a power of the phase times Z on that qudit, and its result is the

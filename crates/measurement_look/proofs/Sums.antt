@@ -1,5 +1,6 @@
 -- Where no stabilizer is a pivot, half the sum of the stabilizers' shares is the outcome that the weighted product fixes.
 -- Assumes nothing.
+use Rattle.std.proofs.Common.{None}
 use mathlib.Core.Path.{◌≡◌, sym, ap}
 use mathlib.Core.List.{List}
 use Prim.Native.Nat.{ℕ, zero, suc, ◌+◌, ◌-◌, ◌*◌, ◌/◌, ◌<◌, ◌≤◌}
@@ -15,7 +16,6 @@ use Rattle.modular.specs.Modular.{neg}
 use Rattle.modular.specs.Dimension.{Dimension}
 use Rattle.row.specs.Row.{phase_of}
 use Rattle.row_laws.proofs.Reading.{denotes, reads_of, dot-is, dot-means, neg_is, neg_small}
-use Rattle.search.specs.declared.Place.TheVariants.{Nowhere}
 use Rattle.validity.specs.Validity.{Valid}
 use Rattle.validity_laws.proofs.View.{rows, at-odd, row_of_lem, basis, reads_z}
 use Rattle.measurement.specs.Look.{destabilizer_power, pivot_of, weighted}
@@ -52,7 +52,7 @@ module _ (f n : ℕ) (t : List ℕ) (ok : Valid (suc (f + f)) n t) (h : ℕ → 
       (vec-commute d n n g (signs n t) (stabs-commute (f + f) n (rows n t) (basis ok)) h k k (omega arith) (omega arith)))
 
 -- The weighted product is Z on q, so its Σ a·b is 0; modulo 2f + 1, f + 1 is ½ and f + f is −1.
-odd-outcome : (f n : ℕ) → Dimension (suc (f + f)) → (t : List ℕ) → Valid (suc (f + f)) n t → (q : ℕ) → q < n → pivot_of n t q ≡ Nowhere
+odd-outcome : (f n : ℕ) → Dimension (suc (f + f)) → (t : List ℕ) → Valid (suc (f + f)) n t → (q : ℕ) → q < n → pivot_of n t q ≡ None
     → half_phase_sum (suc (f + f)) n t q ≡ neg (suc (f + f)) (phase_of n (weighted (suc (f + f)) n t q))
 odd-outcome f n dim t ok q l none =
     let d = suc (f + f) in
@@ -70,7 +70,7 @@ odd-outcome f n dim t ok q l none =
     rw e
     (small_cong (cong_trans (cong_sym (cong_mod d _)) (cong_trans halved (cong_sym (neg_is (f + f) r)))) (mod-lt _ (omega arith)) (neg_small (omega arith) r))
 
-pub certain-outcome : (d n : ℕ) → Dimension d → (t : List ℕ) → Valid d n t → (q : ℕ) → q < n → pivot_of n t q ≡ Nowhere
+pub certain-outcome : (d n : ℕ) → Dimension d → (t : List ℕ) → Valid d n t → (q : ℕ) → q < n → pivot_of n t q ≡ None
     → half_phase_sum d n t q ≡ neg d (phase_of n (weighted d n t q))
 certain-outcome d n dim t ok q l none =
     at-odd (λ z. Valid z n t → half_phase_sum z n t q ≡ neg z (phase_of n (weighted z n t q))) (λ f k v. odd-outcome f n k t v q l none) dim ok

@@ -1,5 +1,6 @@
 -- The bytes of allowed operations, read again: the reader finds no bad one, and the same operations; among gates no code that takes a choice.
 -- Assumes nothing.
+use Rattle.std.proofs.Common.{None}
 use mathlib.Core.Path.{◌≡◌, refl, sym, ap, ◌∙◌}
 use mathlib.Core.Bool.{true, false, ◌||◌}
 use mathlib.Core.List.{List, [], ◌∷◌, ◌++◌, append_assoc, append-nil}
@@ -8,13 +9,12 @@ use native.Mathlib.Omega.{arith}
 use lib.Dec.{eqb}
 use lib.ListN.{length, get_or, length-append, get_or-append}
 use lib.Seq.{get_or-append-add, ext_get_or}
-use Rattle.search.specs.declared.Place.TheVariants.{Nowhere}
 use Rattle.search.proofs.Search.{none_fails}
 use Rattle.operation.specs.declared.Operation.{Operation}
 use Rattle.operation.specs.declared.Operation.TheVariants.{Fourier, PhaseGate, Sum, Cz, Swap, Multiplier, Measure, Reset, Correct}
 use Rattle.operation.specs.Operation.{allowed, named}
 use Rattle.circuit.specs.Circuit.{op_at, gate, kind}
-use Rattle.book_entries.specs.declared.Decoded.TheVariants.{Good}
+use Rattle.std.proofs.Common.{Some}
 use Rattle.book_entries.specs.Entry.{bytes_of, operation_at}
 use Rattle.book_entries.proofs.Decoding.{decoded-exactly}
 use Rattle.book_body.specs.Body.{is_good, good_operation, bad_operation, measurements, choice_takers}
@@ -84,7 +84,7 @@ gate-names earlier (Reset q) e = refl
 gate-names earlier (Correct t m) e = cc
 
 module _ (d n : ℕ) (ops : List Operation) (good : (k : ℕ) → k < length ops → allowed d n (op_at ops k) ≡ true) where
-  entry_read : (k : ℕ) → k < length ops → operation_at d n (bytes_of_all ops) k ≡ Good (op_at ops k)
+  entry_read : (k : ℕ) → k < length ops → operation_at d n (bytes_of_all ops) k ≡ Some (op_at ops k)
   entry_read k l =
       rw (code_at ops k l, byte_at ops k 1 l (omega arith), byte_at ops k 2 l (omega arith), byte_at ops k 3 l (omega arith))
       ((decoded-exactly d n _ _ _ _ (op_at ops k)).1 (good k l, listed-four (bytes_of (op_at ops k)) (four (op_at ops k))))
@@ -96,7 +96,7 @@ module _ (d n : ℕ) (ops : List Operation) (good : (k : ℕ) → k < length ops
       let i : k < length ops = omega (arith, op-count d n (bytes_of_all ops), entry-count ops) in
       op-at d n (bytes_of_all ops) k (rw (entry-count ops) i) ∙ ap operation_in (entry_read k i))
 
-  pub none-bad : ((k : ℕ) → k < length ops → kind (op_at ops k) ≡ gate) → bad_operation d n (bytes_of_all ops) ≡ Nowhere
+  pub none-bad : ((k : ℕ) → k < length ops → kind (op_at ops k) ≡ gate) → bad_operation d n (bytes_of_all ops) ≡ None
   unfolding bad_operation
   none-bad gates =
       none_fails (good_operation d n (bytes_of_all ops)) (length (bytes_of_all ops) / 4)

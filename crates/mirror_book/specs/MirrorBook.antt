@@ -1,7 +1,5 @@
 -- The mirror of a book: what the call returns, and what it leaves in the lent buffer.
-use Rattle.std.specs.Prelude.{Bool, true, false, List, [], ◌∷◌, ◌++◌, ℕ, ◌+◌, ◌*◌, leb, length}
-use Rattle.search.specs.declared.Place.{Place}
-use Rattle.search.specs.declared.Place.TheVariants.{At, Nowhere}
+use Rattle.std.specs.Prelude.{Bool, true, false, List, [], ◌∷◌, ◌++◌, ℕ, ◌+◌, ◌*◌, leb, length, Option, Some, None}
 use Rattle.search.specs.Search.{unless, first_not}
 use Rattle.operation.specs.declared.Operation.{Operation}
 use Rattle.circuit.specs.Circuit.{op_at, Kind, gate, measures, resets, corrects, kind}
@@ -37,13 +35,13 @@ abbrev pub gate_at : List Operation → ℕ → Bool
 gate_at ops k = is_gate (kind (op_at ops k))
 
 -- the first operation that is no gate
-abbrev pub first_measurement : List Operation → Place
+abbrev pub first_measurement : List Operation → Option ℕ
 first_measurement ops = first_not (gate_at ops) (length ops)
 
 -- 12 when the book has a measurement, with the operation index of the first; for codes 7 and 8 as well
-abbrev pub refuse12 : Place → List ℕ → WriteLeft → WriteLeft
-refuse12 (At index) out rest = record { number = 12; place = index; out = out }
-refuse12 Nowhere out rest = rest
+abbrev pub refuse12 : Option ℕ → List ℕ → WriteLeft → WriteLeft
+refuse12 (Some index) out rest = record { number = 12; place = index; out = out }
+refuse12 None out rest = rest
 
 -- 1 to 7 as the reader has them, 12, then 8: the buffer is shorter than the mirror book. Success returns 0 and the number of bytes
 -- written; bytes past them are kept.

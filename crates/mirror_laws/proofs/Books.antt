@@ -1,5 +1,6 @@
 -- The mirror of a whole book: the reader accepts it, and both runs go by the lists.
 -- Assumes nothing.
+use Rattle.std.proofs.Common.{None}
 use mathlib.Core.Path.{◌≡◌, refl, sym, ap, subst, ◌∙◌}
 use mathlib.Core.Bool.{true}
 use mathlib.Core.List.{List, [], ◌∷◌}
@@ -11,7 +12,6 @@ use lib.Seq.{take_at, drop_at}
 use borrow.Author.Tests.{eq-eqb, le-leb}
 use Rattle.modular.specs.Dimension.{Dimension}
 use Rattle.modular.proofs.Listed.{dimension}
-use Rattle.search.specs.declared.Place.TheVariants.{Nowhere}
 use Rattle.search.specs.Search.{first_not}
 use Rattle.operation.specs.declared.Operation.{Operation}
 use Rattle.operation.specs.declared.WeylError.{WeylError}
@@ -50,7 +50,7 @@ use Rattle.mirror_laws.specs.Books.{IsMirror, MirrorAccepted, MirrorFilled, Fill
 use Rattle.mirror_laws.proofs.Lists.{gates_of, none-measured, mirrored-gates, mirrored-allowed, lists_return, lists_carry}
 
 module _ (s : List ℕ) {d n operations errors choices : ℕ} (e : read_book s ≡ accepted d n operations errors choices)
-    (none : first_measurement (ops_in s d n) ≡ Nowhere) where
+    (none : first_measurement (ops_in s d n) ≡ None) where
   means : Means s d n operations errors choices
   means = accepted-means s d n operations errors choices e
 
@@ -184,7 +184,7 @@ fills_mirror s out d n operations errors choices e =
 
 -- the rows of a book that has no errors
 rows-back-clean : (d n : ℕ) → Dimension d → (ops : List Operation) (errors : List WeylError) (choices : List ℕ) → errors ≡ [] → Accepted d n ops errors choices
-    → first_measurement ops ≡ Nowhere
+    → first_measurement ops ≡ None
     → (t results results' : List ℕ) → Valid d n t
     → rows_after_both d n ops errors choices t results results' ≡ t
 rows-back-clean d n dim ops errors choices e ac none t results results' ok =

@@ -1,6 +1,7 @@
 -- Gates undone one by one from the last, by index: after j operations of the mirror the rows are those before the last j gates. Errors of
 -- the first run are the frame that both runs carry.
 -- Assumes nothing.
+use Rattle.std.proofs.Common.{None}
 use mathlib.Core.Path.{◌≡◌, refl, sym, ap, ◌∙◌}
 use mathlib.Core.Bool.{true, false≢true}
 use mathlib.Core.List.{List, []}
@@ -9,7 +10,6 @@ use native.Mathlib.Nat.{le_refl}
 use native.Mathlib.Omega.{arith}
 use lib.ListN.{length}
 use Rattle.modular.specs.Dimension.{Dimension}
-use Rattle.search.specs.declared.Place.TheVariants.{Nowhere}
 use Rattle.search.proofs.Search.{all-good}
 use Rattle.row.specs.Row.{tab}
 use Rattle.operation.specs.declared.Operation.{Operation}
@@ -51,7 +51,7 @@ is-gate (measures q) e = absurd (false≢true e)
 is-gate (resets q) e = absurd (false≢true e)
 is-gate (corrects t m) e = absurd (false≢true e)
 
-pub gates_of : (ops : List Operation) → first_measurement ops ≡ Nowhere → Gates ops
+pub gates_of : (ops : List Operation) → first_measurement ops ≡ None → Gates ops
 gates_of ops none k l = is-gate (kind (op_at ops k)) (all-good (gate_at ops) (length ops) none k l)
 
 pub none-measured : (ops : List Operation) → Gates ops → (m : ℕ) → m ≤ length ops → measured ops m ≡ 0

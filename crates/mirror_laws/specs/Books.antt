@@ -1,6 +1,5 @@
 -- The mirror of a whole book. The statements are proved in proofs/.
-use Rattle.std.specs.Prelude.{◌≡◌, true, List, ℕ, ◌≤◌, length, take, drop}
-use Rattle.search.specs.declared.Place.TheVariants.{Nowhere}
+use Rattle.std.specs.Prelude.{◌≡◌, true, List, ℕ, ◌≤◌, length, take, drop, None}
 use Rattle.saved_tableau.specs.Saved.{dimension_in, qudits_in, rows_in, with_rows, tableau_bytes, self_valid}
 use Rattle.book_body.specs.Body.{accepted}
 use Rattle.book.specs.Book.{read_book}
@@ -22,19 +21,19 @@ pub record IsMirror (d n operations : ℕ) (s mirror : List ℕ) : Type 0 where
 
 abbrev pub MirrorAccepted : Type 0
 MirrorAccepted = (s : List ℕ) (d n operations errors choices : ℕ) → read_book s ≡ accepted d n operations errors choices
-    → first_measurement (ops_in s d n) ≡ Nowhere
+    → first_measurement (ops_in s d n) ≡ None
     → IsMirror d n operations s (mirror_of d n s)
 
 -- The mirror of the mirror is the book with its errors taken out.
 abbrev pub MirrorTwice : Type 0
 MirrorTwice = (s : List ℕ) (d n operations errors choices : ℕ) → read_book s ≡ accepted d n operations errors choices
-    → first_measurement (ops_in s d n) ≡ Nowhere
+    → first_measurement (ops_in s d n) ≡ None
     → mirror_of d n (mirror_of d n s) ≡ errorless d n s
 
 -- A call that returns 0 was handed a book of gates alone. It returns how many bytes it wrote, they are the mirror book, and no
 -- byte past them changed.
 pub record MirrorFilled (d n operations : ℕ) (s out : List ℕ) (left : WriteLeft) : Type 0 where
-  pub gates : first_measurement (ops_in s d n) ≡ Nowhere
+  pub gates : first_measurement (ops_in s d n) ≡ None
   pub count : left.place ≡ mirror_bytes operations
   pub book : take left.place left.out ≡ mirror_of d n s
   pub kept : drop left.place left.out ≡ drop left.place out
@@ -60,7 +59,7 @@ pub record Ends (first second : DirectLeft) (tableau : List ℕ) : Type 0 where
 -- Without errors and measurements: each byte of the tableau is back, those past the needed ones too.
 abbrev pub MirrorReturns : Type 0
 MirrorReturns = (s : List ℕ) (d n operations choices : ℕ) → read_book s ≡ accepted d n operations 0 choices
-    → first_measurement (ops_in s d n) ≡ Nowhere
+    → first_measurement (ops_in s d n) ≡ None
     → (t results results' : List ℕ) → Start d n t
     → Ends (direct_book s t results) (direct_book (mirror_of d n s) (direct_book s t results).tableau results') t
 
@@ -72,7 +71,7 @@ carried_through d n s F = final_frame d n (ops_in s d n) (errors_in s) F
 -- frame is the errors carried through both books.
 abbrev pub MirrorCarries : Type 0
 MirrorCarries = (s : List ℕ) (d n operations errors choices : ℕ) → read_book s ≡ accepted d n operations errors choices
-    → first_measurement (ops_in s d n) ≡ Nowhere
+    → first_measurement (ops_in s d n) ≡ None
     → (t results results' : List ℕ) → Start d n t
     → Ends (direct_book s t results) (direct_book (mirror_of d n s) (direct_book s t results).tableau results')
     (with_rows t (shift_rows d n (carried_through d n (mirror_of d n s) (carried_through d n s (no_frame n))) (rows_in t)))

@@ -1,5 +1,6 @@
 -- What the call returns and leaves, for an accepted book: refused by 12, refused by 8, mirrored.
 -- Assumes nothing.
+use Rattle.std.proofs.Common.{Some, None}
 use mathlib.Core.Path.{◌≡◌, refl, sym, ap, ◌∙◌}
 use mathlib.Core.Bool.{true, false≢true}
 use mathlib.Core.List.{List, []}
@@ -7,7 +8,6 @@ use Prim.Native.Nat.{ℕ, zero, suc, ◌+◌, ◌%◌, ◌<◌, ◌≤◌}
 use native.Mathlib.Omega.{arith}
 use lib.ListN.{length}
 use borrow.Author.Tests.{lt-leb, le-leb, ltb-true}
-use Rattle.search.specs.declared.Place.TheVariants.{At, Nowhere}
 use Rattle.search.specs.Search.{first_not}
 use Rattle.search.proofs.Search.{all-good}
 use Rattle.operation.specs.declared.Operation.{Operation}
@@ -40,7 +40,7 @@ is-gate (Measure q) e h z = absurd (omega arith)
 is-gate (Reset q) e h z = absurd (omega arith)
 is-gate (Correct t m) {earlier} e h z = absurd (omega (arith, ltb-true m earlier h))
 
-pub none_found : (ops : List Operation) → AllNamed ops → (m : ℕ) → m ≤ length ops → chosen ops m ≡ 0 → first_not (gate_at ops) m ≡ Nowhere
+pub none_found : (ops : List Operation) → AllNamed ops → (m : ℕ) → m ≤ length ops → chosen ops m ≡ 0 → first_not (gate_at ops) m ≡ None
 unfolding chosen first_not
 none_found ops names zero l e = refl
 none_found ops names (suc m) l e =
@@ -50,7 +50,7 @@ none_found ops names (suc m) l e =
     )
 
 -- where none was found, every operation is one
-all-gates : (ops : List Operation) → Nowhere ≡ first_measurement ops → (k : ℕ) → k < length ops → kind (op_at ops k) ≡ gate
+all-gates : (ops : List Operation) → None ≡ first_measurement ops → (k : ℕ) → k < length ops → kind (op_at ops k) ≡ gate
 all-gates ops none k l = by (kind (op_at ops k)) (all-good (gate_at ops) (length ops) (sym none) k l)
   where
     by : (x : Kind) → is_gate x ≡ true → x ≡ gate
@@ -75,7 +75,7 @@ module _ (s : List ℕ) {d n measurements : ℕ} (g : Handed s d n measurements)
   pub names : AllNamed (operations_of d n ops)
   names = rw is g.lists.names
 
-  pub entries : Nowhere ≡ first_measurement (operations_of d n ops) → Entries d n ops
+  pub entries : None ≡ first_measurement (operations_of d n ops) → Entries d n ops
   entries none = record { dimension = g.dimension; whole = fits.0; operations = allows; gates = all-gates (operations_of d n ops) none }
 
   -- 4 bytes per operation
@@ -85,7 +85,7 @@ module _ (s : List ℕ) {d n measurements : ℕ} (g : Handed s d n measurements)
       omega (arith, m.operation_count, op-count d n (body_of s 1), ap length own, fits.0)
 
   module _ (out : List ℕ) where
-    pub measuring-book : (index : ℕ) → At index ≡ first_measurement (operations_of d n ops)
+    pub measuring-book : (index : ℕ) → Some index ≡ first_measurement (operations_of d n ops)
         → record { number = 12; place = index; out = out } ≡ mirror_book s out
     unfolding mirror_book mirror_by_answer
     measuring-book index e = rw (g.reads, ← own, ← e)
@@ -93,12 +93,12 @@ module _ (s : List ℕ) {d n measurements : ℕ} (g : Handed s d n measurements)
     below : length out < 22 + length ops → length out < mirror_bytes g.operations
     below l = omega (arith, sized)
 
-    pub short-book : Nowhere ≡ first_measurement (operations_of d n ops) → length out < 22 + length ops
+    pub short-book : None ≡ first_measurement (operations_of d n ops) → length out < 22 + length ops
         → record { number = 8; place = 0; out = out } ≡ mirror_book s out
     unfolding mirror_book mirror_by_answer
     short-book e l = rw (g.reads, ← own, ← e, lt-leb _ _ (below l))
 
-    pub mirrored-book : Nowhere ≡ first_measurement (operations_of d n ops) → 22 + length ops ≤ length out
+    pub mirrored-book : None ≡ first_measurement (operations_of d n ops) → 22 + length ops ≤ length out
         → record { number = 0; place = 22 + length ops; out = overwritten (book_of d n (bytes_of_all (mirrored d (operations_of d n ops))) [] []) out }
         ≡ mirror_book s out
     unfolding mirror_book mirror_by_answer

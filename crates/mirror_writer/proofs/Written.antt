@@ -22,33 +22,29 @@ use Rattle.mirror_book.specs.MirrorBook.{bytes_of_all}
 use Rattle.mirror_book.proofs.Mirrored.{mirrored-length}
 use Rattle.mirror_book.proofs.Body.{four, body-length, body_more}
 
--- the first k entries are written
-pub record EntriesWritten (f : ℕ → Operation) (v₀ : List ℕ) (k : ℕ) (v : List ℕ) : Type 0 where
-  pub len : length v ≡ length v₀
-  pub is : v ≡ bytes_of_all (tab f k) ++ drop (4 * k) v₀
+-- a body whose first k entries are written
+pub written : (f : ℕ → Operation) (v₀ : List ℕ) (k : ℕ) → List ℕ
+written f v₀ k = bytes_of_all (tab f k) ++ drop (4 * k) v₀
 
-module _ (f : ℕ → Operation) where
-  pub written_none : (v : List ℕ) → EntriesWritten f v 0 v
-  unfolding tab bytes_of_all
-  written_none v = record { len = refl; is = refl }
+module _ (f : ℕ → Operation) (v₀ : List ℕ) where
+  pub written_none : v₀ ≡ written f v₀ 0
+  unfolding tab bytes_of_all written
+  written_none = refl
 
   -- one entry more
-  pub written-more : (v₀ v w : List ℕ) (k : ℕ) → EntriesWritten f v₀ k v → length w ≡ length v → w ≡ put (4 * k) 4 (bytes_of (f k)) v
-      → EntriesWritten f v₀ (k + 1) w
-  unfolding tab
-  written-more v₀ v w k h same e =
+  pub written-more : (v w : List ℕ) (k : ℕ) → v ≡ written f v₀ k → w ≡ put (4 * k) 4 (bytes_of (f k)) v → w ≡ written f v₀ (k + 1)
+  unfolding tab written
+  written-more v w k h e =
       let long : length (bytes_of_all (tab f k)) ≡ 4 * k = body-length (tab f k) ∙ ap (λ (x : ℕ). 4 * x) (tab-length f k) in
       let q : 4 * k + 4 ≡ 4 * (k + 1) = omega arith in
       let laid : put (4 * k) 4 (bytes_of (f k)) (bytes_of_all (tab f k) ++ drop (4 * k) v₀) ≡ (bytes_of_all (tab f k) ++ bytes_of (f k)) ++ drop (4 * k + 4) v₀ =
       rw four at (next (bytes_of_all (tab f k)) (bytes_of (f k)) v₀ (4 * k) long) in
-      record {
-        len = same ∙ h.len;
-        is = e ∙ ap (put (4 * k) 4 (bytes_of (f k))) h.is ∙ laid ∙ rw (q, add-one k, body_more (tab f k) (f k)) refl;
-      }
+      e ∙ ap (put (4 * k) 4 (bytes_of (f k))) h ∙ laid ∙ rw (q, add-one k, body_more (tab f k) (f k))
 
   -- every entry
-  pub written_all : (v₀ v : List ℕ) (k : ℕ) → EntriesWritten f v₀ k v → length v₀ ≡ 4 * k → v ≡ bytes_of_all (tab f k)
-  written_all v₀ v k h e = h.is ∙ rw (← e, drop-length v₀) (append-nil (bytes_of_all (tab f k)))
+  pub written_all : (v : List ℕ) (k : ℕ) → v ≡ written f v₀ k → length v₀ ≡ 4 * k → v ≡ bytes_of_all (tab f k)
+  unfolding written
+  written_all v k h e = h ∙ rw (← e, drop-length v₀) (append-nil (bytes_of_all (tab f k)))
 
 -- a part of no bytes changes nothing
 put-none : (i : ℕ) (v : List ℕ) → put i 0 [] v ≡ v

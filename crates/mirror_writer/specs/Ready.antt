@@ -4,7 +4,6 @@ use Rattle.modular.specs.Dimension.{listed}
 use Rattle.circuit.specs.Circuit.{op_at, gate, kind}
 use Rattle.book.specs.Decoded.{operations_of}
 use Rattle.operation_codes.specs.Allowed.{AllAllowed}
-use Rattle.mirror_writer.specs.LastByte.{orders_of, inverses_of}
 
 -- the operations of an accepted book: whole entries, each allowed, and each a gate
 pub record Entries (d n : ℕ) (ops : List ℕ) : Type 0 where
@@ -12,8 +11,3 @@ pub record Entries (d n : ℕ) (ops : List ℕ) : Type 0 where
   pub whole : length ops % 4 ≡ 0
   pub operations : AllAllowed d n (operations_of d n ops)
   pub gates : (k : ℕ) → k < length (operations_of d n ops) → kind (op_at (operations_of d n ops) k) ≡ gate
-
--- for dimension d, the inverses and the numbers of applications that do nothing
-pub record UndoTables (d : ℕ) (inverses orders : List ℕ) : Type 0 where
-  pub inverse-table : inverses ≡ inverses_of d
-  pub order-table : orders ≡ orders_of d

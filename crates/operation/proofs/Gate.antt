@@ -85,22 +85,44 @@ module _ (d n : ℕ) where
     fourier_z-below a b false true h = mod-lt _ low
     fourier_z-below a b false false h = mod-lt _ low
 
-    pub gate-powers : (op : Operation) (v : List ℕ) → allowed d n op ≡ true → Powers d n v → Powers d n (gate_powers d n op v)
+    pub fourier-powers : (q k : ℕ) (v : List ℕ) → q < n → Powers d n v → Powers d n (gate_powers d n (Fourier q k) v)
     unfolding gate_powers
-    gate-powers (Fourier q k) v h p =
-        let l = single-facts 4 n q k h in
+    fourier-powers q k v h p =
         let a = p.below q (omega arith) in
         let b = p.below (n + q) (omega arith) in
         powers_store _ (powers_store _ p (fourier_x-below _ _ (eqb k 1) (eqb k 2) b)) (fourier_z-below _ _ (eqb k 1) (eqb k 2) a)
-    gate-powers (PhaseGate q k) v h p = powers_store _ p (mod-lt _ low)
-    gate-powers (Sum c t k) v h p = powers_store _ (powers_store _ p (mod-lt _ low)) (mod-lt _ low)
-    gate-powers (Cz c t k) v h p = powers_store _ (powers_store _ p (mod-lt _ low)) (mod-lt _ low)
-    gate-powers (Swap c t) v h p =
-        let l = distinct-facts n c t h in
+
+    pub phase_gate-powers : (q k : ℕ) (v : List ℕ) → Powers d n v → Powers d n (gate_powers d n (PhaseGate q k) v)
+    unfolding gate_powers
+    phase_gate-powers q k v p = powers_store _ p (mod-lt _ low)
+
+    pub sum-powers : (c t k : ℕ) (v : List ℕ) → Powers d n v → Powers d n (gate_powers d n (Sum c t k) v)
+    unfolding gate_powers
+    sum-powers c t k v p = powers_store _ (powers_store _ p (mod-lt _ low)) (mod-lt _ low)
+
+    pub cz-powers : (c t k : ℕ) (v : List ℕ) → Powers d n v → Powers d n (gate_powers d n (Cz c t k) v)
+    unfolding gate_powers
+    cz-powers c t k v p = powers_store _ (powers_store _ p (mod-lt _ low)) (mod-lt _ low)
+
+    pub swap-powers : (c t : ℕ) (v : List ℕ) → c < n → t < n → Powers d n v → Powers d n (gate_powers d n (Swap c t) v)
+    unfolding gate_powers
+    swap-powers c t v hc ht p =
         powers_store _
         (powers_store _ (powers_store _ (powers_store _ p (p.below t (omega arith))) (p.below (n + t) (omega arith))) (p.below c (omega arith)))
         (p.below (n + c) (omega arith))
-    gate-powers (Multiplier q u) v h p = powers_store _ (powers_store _ p (mod-lt _ low)) (mod-lt _ low)
+
+    pub multiplier-powers : (q u : ℕ) (v : List ℕ) → Powers d n v → Powers d n (gate_powers d n (Multiplier q u) v)
+    unfolding gate_powers
+    multiplier-powers q u v p = powers_store _ (powers_store _ p (mod-lt _ low)) (mod-lt _ low)
+
+    pub gate-powers : (op : Operation) (v : List ℕ) → allowed d n op ≡ true → Powers d n v → Powers d n (gate_powers d n op v)
+    unfolding gate_powers
+    gate-powers (Fourier q k) v h p = fourier-powers q k v (single-facts 4 n q k h).0 p
+    gate-powers (PhaseGate q k) v h p = phase_gate-powers q k v p
+    gate-powers (Sum c t k) v h p = sum-powers c t k v p
+    gate-powers (Cz c t k) v h p = cz-powers c t k v p
+    gate-powers (Swap c t) v h p = let l = distinct-facts n c t h in swap-powers c t v l.0 l.1 p
+    gate-powers (Multiplier q u) v h p = multiplier-powers q u v p
     gate-powers (Measure q) v h p = p
     gate-powers (Reset q) v h p = p
     gate-powers (Correct t m) v h p = p

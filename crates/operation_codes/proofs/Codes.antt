@@ -14,8 +14,7 @@ use Rattle.operation.specs.Operation.{allowed}
 use Rattle.operation.specs.Gate.{gate_powers, gate_frame}
 use Rattle.operation.proofs.Operands.{distinct-facts}
 use Rattle.circuit.specs.Circuit.{op_at, Kind, gate, measures, resets, corrects, kind}
-use Rattle.book_entries.specs.declared.Decoded.{Decoded}
-use Rattle.book_entries.specs.declared.Decoded.TheVariants.{Good}
+use Rattle.std.proofs.Common.{Option, Some}
 use Rattle.book_entries.specs.Entry.{bytes_of, good_if, coded, operation_at}
 use Rattle.book_entries.specs.Fits.{fits}
 use Rattle.book_entries.proofs.Decoding.{decoded-exactly}
@@ -24,9 +23,9 @@ use Rattle.book.specs.Decoded.{operation_in, operations_of}
 use Rattle.book.proofs.Lists.{op-at}
 
 -- an allowed one was not bad
-fitting : (d n : ℕ) {x : Decoded} (t : Bool) (op : Operation) → x ≡ good_if t op → allowed d n (operation_in x) ≡ true → t ≡ true
+fitting : (d n : ℕ) {x : Option Operation} (t : Bool) (op : Operation) → x ≡ good_if t op → allowed d n (operation_in x) ≡ true → t ≡ true
 fitting d n true op e h = refl
-fitting d n false op e h = absurd ((distinct-facts n 0 0 (sym (ap (λ (x : Decoded). allowed d n (operation_in x)) e) ∙ h)).2 refl)
+fitting d n false op e h = absurd ((distinct-facts n 0 0 (sym (ap (λ (x : Option Operation). allowed d n (operation_in x)) e) ∙ h)).2 refl)
 
 -- numbers from 6 up, and up to 8
 six : (b : ℕ) → b ≢ 0 → b ≢ 1 → b ≢ 2 → b ≢ 3 → b ≢ 4 → b ≢ 5 → 6 ≤ b
@@ -83,11 +82,11 @@ module _ (d n : ℕ) (ops : List ℕ) (k : ℕ) (inside : k < length ops / 4) (h
   is-coded = op-at d n ops k inside ∙ ap operation_in (by_fits d n (byte 1) (byte 2) (byte 3) code ∙ ap (λ (t : Bool). good_if t (coded code (byte 1) (byte 2) (byte 3))) fit)
 
   -- so its bytes are read as that operation, and are the operation's
-  is_read : operation_at d n ops k ≡ Good (op_at (operations_of d n ops) k)
+  is_read : operation_at d n ops k ≡ Some (op_at (operations_of d n ops) k)
   is_read =
       by_fits d n (byte 1) (byte 2) (byte 3) code
       ∙ ap (λ (t : Bool). good_if t (coded code (byte 1) (byte 2) (byte 3))) fit
-      ∙ ap Good (sym is-coded)
+      ∙ ap Some (sym is-coded)
 
   pub own-bytes : code ∷ byte 1 ∷ byte 2 ∷ byte 3 ∷ [] ≡ bytes_of (op_at (operations_of d n ops) k)
   own-bytes = ((decoded-exactly d n code (byte 1) (byte 2) (byte 3) (op_at (operations_of d n ops) k)).0 is_read).1

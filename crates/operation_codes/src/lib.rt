@@ -6,6 +6,7 @@ ghost use Rattle.operation.specs.Operation.{allowed};
 ghost use Rattle.circuit.specs.Circuit.{op_at};
 ghost use Rattle.book.specs.Decoded.{operations_of};
 
+use book_entries::Entry;
 use operation::{Operation, Step};
 
 // Operation k, by its code. The reader has tested the entry for this d and n, so that no byte is tested again.
@@ -14,13 +15,7 @@ pub fn operation_of(ops: &[u8], k: usize, d: u8, n: usize) -> Operation
         × (allowed d n (op_at (operations_of d n ops.now) k) ≡ true) }
     ensures { result ≡ op_at (operations_of d n ops.now) k }
 {
-    let at = 4 * k;
-    book_entries::coded(
-        ops[at],
-        casts::byte_as_usize(ops[at + 1]),
-        casts::byte_as_usize(ops[at + 2]),
-        ops[at + 3],
-    )
+    Entry::at(ops, k).coded()
 }
 
 // Step k: its index together with its operation.

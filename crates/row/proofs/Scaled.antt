@@ -28,5 +28,5 @@ module _ (d n h : ℕ) (v xs w : List ℕ) (m : Multiple d n h xs w) where
       omega (arith, dot-multiple k (omega arith), e, s)
 
   -- the phase of the product
-  pub phase-multiple : (r : ℕ) → (r + h * dot n v xs n) % d ≡ (r + dot n v w n) % d
-  phase-multiple r = same_rest d (r + h * dot n v xs n) (r + dot n v w n) 0 (spill n) (omega (arith, dot-multiple n (le_refl n)))
+  pub phase_multiple : (r : ℕ) → (r + h * dot n v xs n) % d ≡ (r + dot n v w n) % d
+  phase_multiple r = same_rest d (r + h * dot n v xs n) (r + dot n v w n) 0 (spill n) (omega (arith, dot-multiple n (le_refl n)))

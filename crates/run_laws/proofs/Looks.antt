@@ -1,5 +1,6 @@
 -- The look at a qudit of a shifted tableau has the same pivot, or an outcome that is more by the frame's X power.
 -- Assumes nothing.
+use Rattle.std.proofs.Common.{Option, Some, None}
 use mathlib.Core.Path.{◌≡◌, refl, sym, ap, ◌∙◌, subst₂}
 use mathlib.Core.List.{List}
 use Prim.Native.Nat.{ℕ, zero, suc, ◌+◌, ◌*◌, ◌%◌, ◌<◌}
@@ -11,8 +12,6 @@ use Rattle.modular.specs.Dimension.{Dimension}
 use Rattle.row.specs.Row.{x_of, phase_of}
 use Rattle.row.specs.Generators.{z_with}
 use Rattle.row_laws.proofs.Reading.{neg_small, neg_is}
-use Rattle.search.specs.declared.Place.{Place}
-use Rattle.search.specs.declared.Place.TheVariants.{At, Nowhere}
 use Rattle.search.proofs.Search.{found_fails}
 use Rattle.tableau.specs.Tableau.{every}
 use Rattle.validity.specs.Validity.{Valid}
@@ -80,14 +79,14 @@ module _ (e n : ℕ) (dim : Dimension (suc e)) (t : List ℕ) (ok : Valid (suc e
     unfolding look pivot_of
     both_at = go (pivot_of n t q) refl
       where
-        go : (p : Place) → pivot_of n t q ≡ p → Both (suc e) n t q F (look (suc e) n t q) (look (suc e) n (shift_rows (suc e) n F t) q)
-        go (At k) x =
+        go : (p : Option ℕ) → pivot_of n t q ≡ p → Both (suc e) n t q F (look (suc e) n t q) (look (suc e) n (shift_rows (suc e) n F t) q)
+        go (Some k) x =
             let l = (found_fails (commutes n t q) n k x).0 in
             let y : look (suc e) n t q ≡ Free k = ap (look_by (suc e) n t q) x in
             let z : look (suc e) n (shift_rows (suc e) n F t) q ≡ Free k =
             ap (look_by (suc e) n (shift_rows (suc e) n F t) q) (sym (pivot-same n t (shift_rows (suc e) n F t) q shifted_state) ∙ x) in
             subst₂ (Both (suc e) n t q F) (sym y) (sym z) (free k l y)
-        go Nowhere x =
+        go None x =
             let c = commuting_of n t q x in
             subst₂ (Both (suc e) n t q F) (sym (look-certain dim ok q lq c)) (sym (shifted-certain c)) (certain _)
 

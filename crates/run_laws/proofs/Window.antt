@@ -1,5 +1,6 @@
 -- Two lists with the same tableau in them: what is done to their rows depends on the tableau alone.
 -- Assumes nothing.
+use Rattle.std.proofs.Common.{Option, Some, None}
 use mathlib.Core.Path.{◌≡◌, refl, sym, ap, ◌∙◌}
 use mathlib.Core.Bool.{Bool, true, false, cond}
 use mathlib.Core.List.{List}
@@ -20,8 +21,6 @@ use Rattle.operation.specs.Error.{error_row, error_rows}
 use Rattle.operation.proofs.Gate.{gate-keeps}
 use Rattle.operation.proofs.Error.{error-keeps}
 use Rattle.circuit.specs.Circuit.{err_at}
-use Rattle.search.specs.declared.Place.{Place}
-use Rattle.search.specs.declared.Place.TheVariants.{At, Nowhere}
 use Rattle.measurement.specs.declared.Look.TheVariants.{Certain}
 use Rattle.measurement.specs.Look.{destabilizer_power, pivot_of, weighted, look_by, look}
 use Rattle.measurement.proofs.Combination.{combination-same, pivot-same}
@@ -96,9 +95,9 @@ module _ (n : ℕ) {t u : List ℕ} where
         power : (i : ℕ) → i < 2 * n → x_of (row n t i) q ≡ x_of (row n u i) q
         power i l = ap (λ (v : List ℕ). x_of v q) (w.rows i l)
 
-        by : (p : Place) → look_by d n t q p ≡ look_by d n u q p
-        by (At k) = refl
-        by Nowhere =
+        by : (p : Option ℕ) → look_by d n t q p ≡ look_by d n u q p
+        by (Some k) = refl
+        by None =
             ap (λ (v : List ℕ). Certain (neg d (phase_of n v)))
             (combination-same d n t u (destabilizer_power n t q) (destabilizer_power n u q) n (λ i l. power i (omega arith)) (λ i l. w.rows (n + i) (omega arith)))
 

@@ -1,7 +1,6 @@
 -- Checks in order, a test at every number, and the first number that fails it.
-use Rattle.std.specs.Prelude.{Bool, true, false, ◌&&◌, ℕ, zero, suc}
-use Rattle.search.specs.declared.Place.{Place}
-use Rattle.search.specs.declared.Place.TheVariants.{At, Nowhere}
+use Rattle.std.specs.Prelude.{Bool, true, false, ◌&&◌, ℕ, zero, suc, Option, Some, None}
+use Rattle.std.specs.Option.{option_or}
 
 -- bad, unless the test holds: then the rest
 abbrev pub unless : {A : Type 0} → Bool → A → A → A
@@ -13,12 +12,7 @@ unfoldable pub all : (ℕ → Bool) → ℕ → Bool
 all test zero = true
 all test (suc m) = all test m && test m
 
--- the first place; where there is none, the second
-abbrev pub or_else : Place → Place → Place
-or_else (At k) p = At k
-or_else Nowhere p = p
-
 -- the first number below m at which the test fails
-unfoldable pub first_not : (ℕ → Bool) → ℕ → Place
-first_not test zero = Nowhere
-first_not test (suc m) = or_else (first_not test m) (unless (test m) (At m) Nowhere)
+unfoldable pub first_not : (ℕ → Bool) → ℕ → Option ℕ
+first_not test zero = None
+first_not test (suc m) = option_or (first_not test m) (unless (test m) (Some m) None)

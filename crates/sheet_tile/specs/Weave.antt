@@ -1,7 +1,6 @@
 -- The weights of up to 16 measurements on their way from 256 lanes to the rows of the sheet: lane 2l has the p weights of row l, lane
 -- 2l + 1 its s weights.
-use Rattle.std.specs.Prelude.{◌≡◌, ◌≢◌, List, ℕ, ◌+◌, ◌*◌, ◌<◌, ◌≤◌, length, get_or}
-use Rattle.tile.specs.Tile.{shot_at}
+use Rattle.std.specs.Prelude.{◌≡◌, List, ℕ, ◌+◌, ◌*◌, ◌<◌, ◌≤◌, length, get_or}
 
 -- weight i of lane l, in a tile and in a transposed tile
 abbrev pub in_tile : List ℕ → ℕ → ℕ → ℕ
@@ -21,24 +20,8 @@ pub record Cleared (j l : ℕ) (row row' : List ℕ) : Type 0 where
   pub len : length row' ≡ length row
   pub none : (b : ℕ) → b < 2 * j → get_or row' b 0 ≡ 0
 
--- P is what became of row l; the other rows are as they were
-pub record RowChanged (P : ℕ → List ℕ → List ℕ → Type 0) (w l : ℕ) (out out' : List ℕ) : Type 0 where
-  pub len : length out' ≡ length out
-  pub here : P l (shot_at w out l) (shot_at w out' l)
-  pub others : (i : ℕ) → i ≢ l → i * w + w ≤ length out → shot_at w out' i ≡ shot_at w out i
-
--- P is what became of each of the first `used` rows
-pub record RowsChanged (P : ℕ → List ℕ → List ℕ → Type 0) (w used : ℕ) (out out' : List ℕ) : Type 0 where
-  pub len : length out' ≡ length out
-  pub each : (l : ℕ) → l < used → P l (shot_at w out l) (shot_at w out' l)
-
 -- room for `used` rows of w bytes each, two lanes for a row
 pub record RowsRoom (w used : ℕ) (out : List ℕ) : Type 0 where
   pub lanes : used ≤ 128
   pub narrow : w < 65536
   pub room : used * w ≤ length out
-
--- room for a tile and for turning it
-pub record TurnRoom (tile spare : List ℕ) : Type 0 where
-  pub tile_room : length tile ≡ 4096
-  pub spare_room : length spare ≡ 4096

@@ -1,11 +1,10 @@
 -- What holds of each refusal of a tray, and of what is returned where nothing refuses, holds of what is left.
 -- Assumes nothing.
+use Rattle.std.proofs.Common.{Option, Some, None}
 use mathlib.Core.Path.{◌≡◌, refl}
 use mathlib.Core.Bool.{true}
 use mathlib.Core.List.{List}
 use Prim.Native.Nat.{ℕ}
-use Rattle.search.specs.declared.Place.{Place}
-use Rattle.search.specs.declared.Place.TheVariants.{At, Nowhere}
 use Rattle.search.proofs.Search.{unless_cases}
 use Rattle.saved_tableau.specs.Saved.{rows_in, valid_for}
 use Rattle.book_body.specs.Body.{accepted}
@@ -18,7 +17,7 @@ use Rattle.shots.specs.Shots.{TrayLeft, tray_refused, tray_ended, refuse6, tray_
 -- 11, the tray's 6, 8 and 9 let it through
 pub record Goes (d n operations : ℕ) (s tray t out : List ℕ) : Type 0 where
   pub table : table_fits tray ≡ true
-  pub shots : bad_shot d n operations tray ≡ Nowhere
+  pub shots : bad_shot d n operations tray ≡ None
   pub room : tray_buffers_fit n (measurements_in s d n) (shots_in tray) t out ≡ true
   pub tableau : valid_for d n t ≡ true
 
@@ -29,9 +28,9 @@ module _ (s tray t out : List ℕ) (P : TrayLeft → Type 0) where
   abbrev OnSuccess : ℕ → ℕ → ℕ → Type 0
   OnSuccess d n operations = Goes d n operations s tray t out → P (tray_ended d n (operations_of d n (body_of s 1)) (body_of s 3) tray (rows_in t) out)
 
-  six_cases : {rest : TrayLeft} (p : Place) → ((k : ℕ) → OnRefusal 6 k) → (p ≡ Nowhere → P rest) → P (refuse6 p out rest)
-  six_cases (At k) six goes = six k
-  six_cases Nowhere six goes = goes refl
+  six_cases : {rest : TrayLeft} (p : Option ℕ) → ((k : ℕ) → OnRefusal 6 k) → (p ≡ None → P rest) → P (refuse6 p out rest)
+  six_cases (Some k) six goes = six k
+  six_cases None six goes = goes refl
 
   -- of a book that is accepted
   pub accepted_cases : (d n operations errors choices : ℕ) → OnRefusal 11 0 → ((k : ℕ) → OnRefusal 6 k) → OnRefusal 8 0 → OnRefusal 9 0

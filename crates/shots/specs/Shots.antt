@@ -1,7 +1,5 @@
 -- What a tray of shots fills and returns: exactly as separate frame runs would.
-use Rattle.std.specs.Prelude.{Bool, cond, ◌&&◌, List, [], ◌∷◌, ℕ, zero, suc, ◌+◌, ◌*◌, eqb, leb, length, replicate}
-use Rattle.search.specs.declared.Place.{Place}
-use Rattle.search.specs.declared.Place.TheVariants.{At, Nowhere}
+use Rattle.std.specs.Prelude.{Bool, cond, ◌&&◌, List, [], ◌∷◌, ℕ, zero, suc, ◌+◌, ◌*◌, eqb, leb, length, replicate, Option, Some, None}
 use Rattle.search.specs.Search.{unless}
 use Rattle.tableau.specs.Tableau.{each_row}
 use Rattle.saved_tableau.specs.Saved.{rows_in, tableau_bytes, valid_for}
@@ -71,9 +69,9 @@ tray_ended d n ops choices tray start out =
     }
 
 -- 6 with the number of the first shot that has a bad entry
-abbrev pub refuse6 : Place → List ℕ → TrayLeft → TrayLeft
-refuse6 (At shot) out rest = tray_refused 6 shot out
-refuse6 Nowhere out rest = rest
+abbrev pub refuse6 : Option ℕ → List ℕ → TrayLeft → TrayLeft
+refuse6 (Some shot) out rest = tray_refused 6 shot out
+refuse6 None out rest = rest
 
 -- 1 to 7 of the book, its own errors checked but not used; then 11, the tray's 6, 8 and 9: a tableau that is not valid, or whose d or n
 -- isn't the book's

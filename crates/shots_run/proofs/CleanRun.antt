@@ -25,7 +25,8 @@ use Rattle.run_laws.proofs.Books.{choice_in}
 use Rattle.run_laws.proofs.Results.{ResultsRelated, related_none, related_more}
 use Rattle.run_laws.proofs.Window.{Window, window_of, valid-window}
 use Rattle.run_laws.proofs.Sound.{run_keeps-valid}
-use Rattle.lane_shots.specs.LaneShots.{blank, CleanShots, shifted_shots}
+use Rattle.block.specs.Clean.{CleanShots}
+use Rattle.lane_shots.specs.LaneShots.{blank, shifted_shots}
 use Rattle.lane_shots.proofs.Starting.{blank-length}
 use Rattle.blocks.specs.Blocks.{shot_errors, TrayErrors, ShotsFilled}
 use Rattle.shots_run.specs.Ready.{Ready}

@@ -10,14 +10,19 @@ ghost use Rattle.lane_shots.specs.LaneShots.{blank};
 ghost use Rattle.shots_run.specs.Ready.{Ready};
 ghost use Rattle.shots_run.specs.CopyRun.{AllShotsFilled, all_shots_shifted};
 
+use block::CleanRun;
+use blocks::TrayShots;
+use book::Circuit;
+use modular::Modulus;
+
 // The clean run in lent buffers, which begin as a copy's room and as no results; then every shot. How many are shifted is returned.
-fn run_in(
+fn run_in<'a>(
     out: &mut [u8],
-    copy: &mut [u8],
-    results: &mut [u8],
-    tray: &[u8],
+    copy: &'a mut [u8],
+    results: &'a mut [u8],
+    tray: &'a [u8],
     t: &[u8],
-    ops: &[u8],
+    ops: &'a [u8],
     choices: &[u8],
     d: u8,
     n: usize,
@@ -30,9 +35,24 @@ fn run_in(
         × (result ≡ all_shots_shifted d n ops.now choices.now t.now tray.now) }
 {
     let size = copy.len();
-    tableau::copy(copy, &t[..size]);
-    let measurements = clean_run::run(copy, results, ops, choices, d, n);
-    blocks::fill(out, tray, ops, results, copy, 1 + 2 * measurements, d, n)
+    copy.copy_from_slice(&t[..size]);
+    let circuit = Circuit {
+        ops,
+        errors: &[],
+        choices,
+        d,
+        n,
+    };
+    let measurements = clean_run::run(copy, results, &circuit);
+    let clean = CleanRun {
+        ops,
+        results,
+        t: copy,
+        w: 1 + 2 * measurements,
+        m: Modulus::new(d),
+        n,
+    };
+    TrayShots { tray, clean }.fill(out)
 }
 
 // Every shot, with room for the copy and the clean results of so many measurements: the buffer holds what separate frame runs would fill

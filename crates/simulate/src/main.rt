@@ -1,104 +1,109 @@
 // Reads one shot book from standard input and prints its frame run from the zero tableau.
 #![tactic(auto)]
 
-ghost use Rattle.std.specs.Prelude.{◌+◌, ◌*◌, ◌<◌, ◌≤◌, length};
+ghost use Rattle.std.specs.Prelude.{◌≡◌, ◌+◌, ◌*◌, ◌<◌, ◌≤◌, length};
 
-use book_body::{Numbers, Reading};
+use answer::Refusal;
+use book_body::Numbers;
+use std::io;
+use std::io::Read;
 
-fn write(words: &[u8], number: usize) {
-    io::write_all(1, words);
-    io::print_decimal(1, number as u64);
+// What is listed of a book that ran: its numbers and what the run left.
+#[derive(Drop)]
+struct Listing {
+    numbers: Numbers,
+    results: [u8; 8192],
+    shifts: [u8; 128],
+    verdict: usize,
 }
 
-fn refuse(number: usize, place: usize) {
-    write(b"refused ", number);
-    write(b" at ", place);
-    io::write_all(1, b"\n");
+// The frame run from the zero tableau, or the refusal.
+fn run(book: &[u8]) -> Result<Listing, Refusal> {
+    let numbers = book::read(book)?;
+    let mut t = [0; 16514];
+    let mut results = [0; 8192];
+    let mut shifts = [0; 128];
+    let mut frame = [0; 128];
+    tableau_calls::lay(&mut t, usize::from(numbers.d), numbers.n);
+    let answer = frame_run::run_or_refuse(book, &mut t, &mut results, &mut shifts, &mut frame)?;
+    Ok(Listing {
+        numbers,
+        results,
+        shifts,
+        verdict: answer.verdict,
+    })
 }
 
-// The line of measurement j, of qudit q: its kind and its reported result.
-fn measurement(j: usize, q: usize, results: &[u8])
-    requires { 2 * j + 1 < length results.now }
-{
-    write(b"m ", j);
-    write(b" qudit ", q);
-    let outcome = casts::byte_as_usize(results[2 * j]);
-    if results[2 * j + 1] == 0 {
-        write(b" certain ", outcome);
-    } else {
-        write(b" free ", outcome);
+// A line for each operation of code 6: its number, its qudit, its kind and its reported result.
+fn print_measurements(rt: &impl Print, ops: &[u8], results: &[u8]) -> io::Result<()> {
+    let measured = ops.chunks_exact(4).filter(|entry| entry[0] == 6);
+    let qudits = measured.map(|entry| entry[1]);
+    for (j, (qudit, result)) in qudits.zip(results.chunks_exact(2)).enumerate() {
+        let kind = if result[1] == 0 { "certain" } else { "free" };
+        let outcome = result[0];
+        println!(rt; "m {j} qudit {qudit} {kind} {outcome}")?;
     }
-    io::write_all(1, b"\n");
-}
-
-// A line for each operation of code 6. An accepted book's measurements all have room; the test spares a proof of it.
-fn measurements(ops: &[u8], results: &[u8]) {
-    let count = ops.len() / 4;
-    let room = results.len() / 2;
-    let mut j = 0;
-    let mut k = 0;
-    while k < count {
-        if ops[4 * k] == 6 {
-            if j < room {
-                measurement(j, casts::byte_as_usize(ops[4 * k + 1]), results);
-                j += 1;
-            }
-        }
-        k += 1;
-    }
+    Ok(())
 }
 
 // Each row's shift, in row order.
-fn shift_line(shifts: &[u8; 128], n: usize)
-    requires { n ≤ 64 }
+fn print_shifts(rt: &impl Print, shifts: &[u8]) -> io::Result<()> {
+    print!(rt; "shift")?;
+    for shift in shifts {
+        print!(rt; " {shift}")?;
+    }
+    println!(rt; "")
+}
+
+impl Listing {
+    fn print(&self, rt: &impl Print, ops: &[u8]) -> io::Result<()> {
+        let Numbers {
+            d,
+            n,
+            operations,
+            errors,
+            ..
+        } = self.numbers;
+        println!(rt; "d {d} n {n} operations {operations} errors {errors}")?;
+        print_measurements(rt, ops, &self.results)?;
+        // always so for an accepted book; the test spares a proof of it
+        if n <= 64 {
+            print_shifts(rt, &self.shifts[..2 * n])?;
+        }
+        let verdict = if self.verdict == 0 {
+            "clean"
+        } else {
+            "shifted"
+        };
+        println!(rt; "verdict {verdict}")
+    }
+}
+
+fn main(rt: HostRuntime) {
+    let mut buffer = [0; 30743];
+    let length = read_full(&mut rt.stdin(), &mut buffer);
+    let book = &buffer[..length];
+    let printed = match run(book) {
+        Ok(listing) => listing.print(&rt, book::body(book, 1)),
+        Err(refusal) => rt.println(refusal),
+    };
+    // Where nothing more can be written the listing breaks off, and that it has no last line says so.
+    let _ = printed;
+}
+
+// Reads until the buffer is full, the input ends or a read fails: how many bytes there are.
+fn read_full(input: &mut impl Read, buf: &mut [u8]) -> usize
+    ensures { result ≤ length buf.new }
 {
-    io::write_all(1, b"shift");
-    for i in 0..2 * n {
-        write(b" ", casts::byte_as_usize(shifts[i]));
+    let mut done = 0;
+    for _ in 0..buf.len() {
+        if done == buf.len() {
+            break;
+        }
+        match input.read(&mut buf[done..]) {
+            Ok(0) | Err(_) => break,
+            Ok(more) => done += more,
+        }
     }
-    io::write_all(1, b"\n");
-}
-
-fn verdict_line(verdict: usize) {
-    if verdict == 0 {
-        io::write_all(1, b"verdict clean\n");
-    } else {
-        io::write_all(1, b"verdict shifted\n");
-    }
-}
-
-// The whole listing of an accepted book, or the refusal that its run ended with.
-fn list(book: &[u8], numbers: Numbers) {
-    let mut t = [0u8; 16514];
-    let mut results = [0u8; 8192];
-    let mut shifts = [0u8; 128];
-    let mut frame = [0u8; 128];
-    let n = numbers.n;
-    tableau_calls::lay(&mut t, casts::byte_as_usize(numbers.d), n);
-    let answer = frame_run::frame_run(book, &mut t, &mut results, &mut shifts, &mut frame);
-    if answer.number != 0 {
-        refuse(answer.number, answer.place);
-        return;
-    }
-    write(b"d ", casts::byte_as_usize(numbers.d));
-    write(b" n ", n);
-    write(b" operations ", numbers.operations);
-    write(b" errors ", numbers.errors);
-    io::write_all(1, b"\n");
-    measurements(book::body(book, 1), &results);
-    // always so for an accepted book; the test spares a proof of it
-    if n <= 64 {
-        shift_line(&shifts, n);
-    }
-    verdict_line(answer.verdict);
-}
-
-fn main() {
-    let mut book = [0u8; 30743];
-    let length = io::read_full(0, &mut book);
-    let reading = book::read(&book[..length]);
-    match reading {
-        Reading::Accepted(numbers) => list(&book[..length], numbers),
-        Reading::Refused { number, place } => refuse(casts::byte_as_usize(number), place),
-    }
+    done
 }

@@ -6,27 +6,28 @@ ghost use Rattle.modular.specs.Dimension.{listed};
 ghost use Rattle.tableau.specs.Tableau.{sized};
 ghost use Rattle.zero_tableau.specs.ZeroTableau.{zero_tableau};
 ghost use Rattle.validity.specs.Validity.{valid};
+ghost use Rattle.answer.specs.Refusal.{tested};
 ghost use Rattle.saved_tableau.specs.Saved.{rows_in, with_rows, tableau_bytes, names, valid_for};
 ghost use Rattle.saved_tableau.specs.Shape.{shape_number};
 ghost use Rattle.saved_tableau.specs.Layer.{layer_number, layer_leaves};
 ghost use Rattle.saved_tableau.specs.Test.{test_number};
 
-use answer::Answer;
+use answer::{Answer, Refusal};
 
-// The refusal of a tableau of n qudits of dimension d in a lent buffer by 2, 3 or 8; 0 where none of them refuses.
-fn shape_number(t: &[u8], d: usize, n: usize) -> usize
-    ensures { result ≡ shape_number d n t.now 0 }
+// A tableau of n qudits of dimension d in a lent buffer, or its refusal by 2, 3 or 8.
+fn shaped(t: &[u8], d: usize, n: usize) -> Result<(), Refusal>
+    ensures { tested result ≡ record { number = shape_number d n t.now 0; place = 0 } }
 {
     if !modular::is_listed(d) {
-        return 2;
+        return Err(Refusal::Dimension);
     }
     if !tableau::is_sized(n) {
-        return 3;
+        return Err(Refusal::Qudits);
     }
     if t.len() < 2 * n * (2 * n + 1) + 2 {
-        return 8;
+        return Err(Refusal::Length);
     }
-    0
+    Ok(())
 }
 
 // The zero tableau's rows behind the first two bytes.
@@ -39,18 +40,22 @@ fn lay_rows(t: &mut [u8], n: usize)
 }
 
 // Lays the zero tableau of n qudits of dimension d, or refuses by 2, 3 or 8.
+fn laid(t: &mut [u8], d: usize, n: usize) -> Result<(), Refusal>
+    ensures number { tested result ≡ record { number = layer_number d n t.old; place = 0 } }
+    ensures left { t.new ≡ layer_leaves d n t.old }
+{
+    shaped(t, d, n)?;
+    lay_rows(t, n);
+    t[0] = d as u8;
+    t[1] = n as u8;
+    Ok(())
+}
+
 pub fn lay(t: &mut [u8], d: usize, n: usize) -> Answer
     ensures { (result ≡ record { number = layer_number d n t.old; place = 0 })
         × (t.new ≡ layer_leaves d n t.old) }
 {
-    let number = shape_number(t, d, n);
-    if number != 0 {
-        return Answer { number, place: 0 };
-    }
-    lay_rows(t, n);
-    t[0] = d as u8;
-    t[1] = n as u8;
-    Answer { number, place: 0 }
+    Answer::from(laid(t, d, n))
 }
 
 // Whether the rows behind the first two bytes are valid for d and n.
@@ -63,23 +68,26 @@ fn rows_valid(t: &[u8], d: u8, n: usize) -> bool
     validity_test::is_valid(&t[2..], d, n)
 }
 
-// Tests a tableau for the d and n that it names: 0, or its refusal by 8, 2, 3, 8 or 9.
+// Tests a tableau for the d and n that it names: its refusal by 8, 2, 3, 8 or 9.
+pub fn tested(t: &[u8]) -> Result<(), Refusal>
+    ensures { tested result ≡ record { number = test_number t.now; place = 0 } }
+{
+    if t.len() < 2 {
+        return Err(Refusal::Length);
+    }
+    let d = t[0];
+    let n = usize::from(t[1]);
+    shaped(t, usize::from(d), n)?;
+    if !rows_valid(t, d, n) {
+        return Err(Refusal::Rows);
+    }
+    Ok(())
+}
+
 pub fn test(t: &[u8]) -> Answer
     ensures { result ≡ record { number = test_number t.now; place = 0 } }
 {
-    if t.len() < 2 {
-        return answer::refused(8, 0);
-    }
-    let d = t[0];
-    let n = casts::byte_as_usize(t[1]);
-    let number = shape_number(t, casts::byte_as_usize(d), n);
-    if number != 0 {
-        return Answer { number, place: 0 };
-    }
-    if !rows_valid(t, d, n) {
-        return answer::refused(9, 0);
-    }
-    Answer { number, place: 0 }
+    Answer::from(tested(t))
 }
 
 // Whether the first two bytes are d and n.
@@ -87,7 +95,7 @@ fn is_named(t: &[u8], d: u8, n: usize) -> bool
     requires { 2 ≤ length t.now }
     ensures { result ≡ names d n t.now }
 {
-    (t[0] == d) & (casts::byte_as_usize(t[1]) == n)
+    (t[0] == d) & (usize::from(t[1]) == n)
 }
 
 // Whether a tableau is valid and names d and n, which are a book's.

@@ -1,120 +1,126 @@
-// Arithmetic modulo d on single bytes, by tables that are made once for a run.
+// Arithmetic modulo d on single bytes, by look-up in tables that are made once for a run.
 #![tactic(auto)]
 
-ghost use Rattle.std.specs.Prelude.{◌≡◌, ◌+◌, ◌*◌, ◌%◌, ◌<◌, ◌≤◌, length};
-ghost use Rattle.modular.specs.Modular.{neg, tri, Reciprocal};
-ghost use Rattle.row.specs.Row.{tab};
-ghost use Rattle.tables.specs.Tables.{Tables, rest_at, product_at, triangle_at};
+ghost use Rattle.std.specs.Prelude.{◌≡◌, ◌+◌, ◌*◌, ◌%◌, ◌<◌, ◌≤◌};
+ghost use Rattle.modular.specs.Modular.{neg, tri};
+ghost use Rattle.tables.specs.Tables.{RestsOf, MultiplesOf, ProductsOf, TrianglesOf};
 
-// The rest of k. Here, in sums and in products d only says which tables they are.
-fn rest(tables: &[u8], d: u8, k: usize) -> u8
-    requires { Tables d tables.now
-        × (k < 96) }
-    ensures { result ≡ k % d }
-{
-    tables[k]
-}
+use modular::Modulus;
 
-// x + y
-pub fn sum(tables: &[u8], d: u8, x: u8, y: u8) -> u8
-    requires { Tables d tables.now
-        × (x < d)
-        × (y < d) }
-    ensures { result ≡ (x + y) % d }
+// (Tried for these four: `array::from_fn`, whose entries only a proof over its calls, one by one, would give.)
+fn rests(m: Modulus) -> [u8; 96]
+    ensures { RestsOf m.d result }
 {
-    rest(tables, d, x as usize + y as usize)
-}
-
-// x + y + z
-pub fn sum_of_three(tables: &[u8], d: u8, x: u8, y: u8, z: u8) -> u8
-    requires { Tables d tables.now
-        × (x < d)
-        × (y < d)
-        × (z < d) }
-    ensures { result ≡ (x + y + z) % d }
-{
-    rest(tables, d, x as usize + y as usize + z as usize)
-}
-
-// x − y
-pub fn difference(tables: &[u8], d: u8, x: u8, y: u8) -> u8
-    requires { Tables d tables.now
-        × (x < d)
-        × (y < d) }
-    ensures { result ≡ (x + neg d y) % d }
-{
-    rest(tables, d, x as usize + (d - y) as usize)
-}
-
-// x·y, x at most d
-pub fn product(tables: &[u8], d: u8, x: u8, y: u8) -> u8
-    requires { Tables d tables.now
-        × (x ≤ d)
-        × (y < d) }
-    ensures { result ≡ x * y % d }
-{
-    tables[96 + (x as usize * 32 + y as usize)]
-}
-
-// k·x. Where k is known to be 1, the compiler leaves out the lookup.
-pub fn multiple(tables: &[u8], d: u8, k: u8, x: u8) -> u8
-    requires { Tables d tables.now
-        × (k < d)
-        × (x < d) }
-    ensures { result ≡ k * x % d }
-{
-    if k == 1 { x } else { product(tables, d, k, x) }
-}
-
-// x(x − 1)/2
-pub fn triangle(tables: &[u8], d: u8, x: u8) -> u8
-    requires { Tables d tables.now
-        × (x < d) }
-    ensures { result ≡ tri x % d }
-{
-    tables[1120 + x as usize]
-}
-
-fn make_rests(rests: &mut [u8], d: u8, m: u16)
-    requires { (length rests.old ≡ 96)
-        × Reciprocal d m }
-    ensures { rests.new ≡ tab (rest_at d) 96 }
-{
+    let mut rests = [0; 96];
     for k in 0..96 {
-        rests[k] = modular::reduce(k as u16, d, m);
+        rests[k] = m.reduce(k as u16);
     }
+    rests
 }
 
-fn make_products(products: &mut [u8], d: u8, m: u16)
-    requires { (length products.old ≡ 1024)
-        × Reciprocal d m }
-    ensures { products.new ≡ tab (product_at d) 1024 }
+fn multiples(x: u16, m: Modulus) -> [u8; 32]
+    requires { x < 32 }
+    ensures { MultiplesOf m.d x result }
 {
-    for k in 0..1024 {
-        products[k] = modular::reduce((k / 32) as u16 * (k % 32) as u16, d, m);
+    let mut multiples = [0; 32];
+    for y in 0..32 {
+        multiples[y] = m.reduce(x * y as u16);
     }
+    multiples
 }
 
-fn make_triangles(triangles: &mut [u8], d: u8, m: u16)
-    requires { (length triangles.old ≡ 32)
-        × Reciprocal d m }
-    ensures { triangles.new ≡ tab (triangle_at d) 32 }
+fn products(m: Modulus) -> [[u8; 32]; 32]
+    ensures { ProductsOf m.d result }
 {
+    let mut products = [[0; 32]; 32];
+    for x in 0..32 {
+        products[x] = multiples(x as u16, m);
+    }
+    products
+}
+
+fn triangles(m: Modulus) -> [u8; 32]
+    ensures { TrianglesOf m.d result }
+{
+    let mut triangles = [0; 32];
     for k in 0..32 {
         let x = k as u16;
-        triangles[k] = modular::reduce((x * x - x) / 2, d, m);
+        triangles[k] = m.reduce((x * x - x) / 2);
     }
+    triangles
 }
 
-// All tables of dimension d.
-pub fn make(tables: &mut [u8], d: u8)
-    requires { (3 ≤ d)
-        × (d ≤ 31)
-        × (length tables.old ≡ 1152) }
-    ensures { Tables d tables.new }
-{
-    let m = modular::reciprocal(d);
-    make_rests(&mut tables[0..96], d, m);
-    make_products(&mut tables[96..1120], d, m);
-    make_triangles(&mut tables[1120..1152], d, m);
+// The rests of 0 to 95, the products of the numbers below 32, and x(x − 1)/2 for each of these, modulo d.
+#[derive(Drop)]
+pub struct Tables {
+    pub d: u8,
+    rests: [u8; 96],
+    products: [[u8; 32]; 32],
+    triangles: [u8; 32],
+    ghost low: { 3 ≤ d },
+    ghost high: { d ≤ 31 },
+    ghost rests_made: { RestsOf d rests },
+    ghost products_made: { ProductsOf d products },
+    ghost triangles_made: { TrianglesOf d triangles },
+}
+
+impl Tables {
+    pub fn new(d: u8) -> Self
+        requires low { 3 ≤ d }
+        requires high { d ≤ 31 }
+        ensures { result.d ≡ d }
+    {
+        let m = Modulus::new(d);
+        Tables {
+            d: m.d,
+            rests: rests(m),
+            products: products(m),
+            triangles: triangles(m),
+        }
+    }
+
+    // x + y
+    pub fn sum(&self, x: u8, y: u8) -> u8
+        requires x_below { x < self.now.d }
+        requires y_below { y < self.now.d }
+        ensures { result ≡ (x + y) % self.now.d }
+    {
+        self.rests[usize::from(x) + usize::from(y)]
+    }
+
+    // x + y + z
+    pub fn sum_of_three(&self, x: u8, y: u8, z: u8) -> u8
+        requires x_below { x < self.now.d }
+        requires y_below { y < self.now.d }
+        requires z_below { z < self.now.d }
+        ensures { result ≡ (x + y + z) % self.now.d }
+    {
+        self.rests[usize::from(x) + usize::from(y) + usize::from(z)]
+    }
+
+    // x − y
+    pub fn difference(&self, x: u8, y: u8) -> u8
+        requires x_below { x < self.now.d }
+        requires y_below { y < self.now.d }
+        ensures { result ≡ (x + neg self.now.d y) % self.now.d }
+    {
+        self.rests[usize::from(x) + usize::from(self.d - y)]
+    }
+
+    // x·y, x at most d
+    pub fn product(&self, x: u8, y: u8) -> u8
+        requires x_within { x ≤ self.now.d }
+        requires y_below { y < self.now.d }
+        ensures { result ≡ x * y % self.now.d }
+    {
+        self.products[usize::from(x)][usize::from(y)]
+    }
+
+    // x(x − 1)/2
+    pub fn triangle(&self, x: u8) -> u8
+        requires { x < self.now.d }
+        ensures { result ≡ tri x % self.now.d }
+    {
+        self.triangles[usize::from(x)]
+    }
 }

@@ -1,8 +1,6 @@
 -- A tray of shots: a table of contents first, a two-byte count and then a two-byte length per shot, all low byte first, followed by
 -- the error bodies in order. The statement is proved in proofs/.
-use Rattle.std.specs.Prelude.{◌≡◌, Bool, true, false, ◌&&◌, List, ℕ, zero, suc, ◌+◌, ◌*◌, ◌<◌, eqb, leb, length}
-use Rattle.search.specs.declared.Place.{Place}
-use Rattle.search.specs.declared.Place.TheVariants.{At, Nowhere}
+use Rattle.std.specs.Prelude.{◌≡◌, Bool, true, false, ◌&&◌, List, ℕ, zero, suc, ◌+◌, ◌*◌, ◌<◌, eqb, leb, length, Option, Some, None}
 use Rattle.search.specs.Search.{all, first_not}
 use Rattle.tableau.specs.Tableau.{part}
 use Rattle.book_entries.specs.Entry.{word}
@@ -39,12 +37,12 @@ OnlyTray = (s u : List ℕ) → Bytes s → Bytes u → table_fits s ≡ true �
     → s ≡ u
 
 -- 6: the first shot that has a bad error entry; places as in a book of `count` operations
-abbrev pub is_nowhere : Place → Bool
-is_nowhere (At place) = false
-is_nowhere Nowhere = true
+abbrev pub is_nowhere : Option ℕ → Bool
+is_nowhere (Some place) = false
+is_nowhere None = true
 
 abbrev pub good_shot : ℕ → ℕ → ℕ → List ℕ → ℕ → Bool
 good_shot d n count s i = is_nowhere (bad_error d n count (shot_body s i))
 
-unfoldable pub bad_shot : ℕ → ℕ → ℕ → List ℕ → Place
+unfoldable pub bad_shot : ℕ → ℕ → ℕ → List ℕ → Option ℕ
 bad_shot d n count s = first_not (good_shot d n count s) (shots_in s)

@@ -6,7 +6,6 @@ ghost use Rattle.tray.specs.Tray.{table_fits, bad_shot};
 
 use book_body::{bad_error, length_fits};
 use book_entries::word;
-use search::Place;
 
 // Whether the table of contents is right, and the tray exactly as long as it says.
 pub fn table_fits(tray: &[u8]) -> bool
@@ -37,7 +36,7 @@ pub fn table_fits(tray: &[u8]) -> bool
 }
 
 // 6: the first shot that has a bad error entry, for a book with `count` operations.
-pub fn bad_shot(tray: &[u8], count: usize, d: u8, n: usize) -> Place
+pub fn bad_shot(tray: &[u8], count: usize, d: u8, n: usize) -> Option<usize>
     requires { table_fits tray.now ≡ true }
     ensures { result ≡ bad_shot d n count tray.now }
 {
@@ -46,11 +45,11 @@ pub fn bad_shot(tray: &[u8], count: usize, d: u8, n: usize) -> Place
     let mut i = 0;
     while i < shots {
         let end = start + word(tray, 2 + 2 * i);
-        if let Place::At(_) = bad_error(&tray[start..end], count, d, n) {
-            return Place::At(i);
+        if let Some(_) = bad_error(&tray[start..end], count, d, n) {
+            return Some(i);
         }
         start = end;
         i += 1;
     }
-    Place::Nowhere
+    None
 }

@@ -1,5 +1,6 @@
 -- The tray run of an accepted book, by the tests of tray, buffers and tableau.
 -- Assumes nothing.
+use Rattle.std.proofs.Common.{Some, None, Result, Ok}
 use mathlib.Core.Path.{◌≡◌, sym, ap, ◌∙◌}
 use mathlib.Core.Bool.{Bool, true, false}
 use mathlib.Core.List.{List}
@@ -8,14 +9,12 @@ use native.Mathlib.Omega.{arith}
 use lib.Dec.{leb}
 use lib.ListN.{length}
 use borrow.Author.Tests.{leb-true}
-use Rattle.search.specs.declared.Place.TheVariants.{At, Nowhere}
 use Rattle.search.proofs.Search.{both}
 use Rattle.saved_tableau.specs.Saved.{rows_in, tableau_bytes, valid_for}
 use Rattle.saved_tableau_laws.proofs.Exactly.{valid-rows}
 use Rattle.circuit.specs.Circuit.{measurement_count}
 use Rattle.book_body.specs.declared.Numbers.{Numbers}
-use Rattle.book_body.specs.declared.Reading.{Reading}
-use Rattle.book_body.specs.declared.Reading.TheVariants.{Accepted as Taken}
+use Rattle.answer.specs.declared.Refusal.{Refusal}
 use Rattle.book_body.specs.Body.{accepted, answer_of, measured_of, measured_by}
 use Rattle.book.specs.Book.{part_of, read_book}
 use Rattle.book.specs.Decoded.{operations_of}
@@ -40,10 +39,10 @@ pub record Opened (s : List ℕ) (b : Numbers) : Type 0 where
   pub reads : read_book s ≡ accepted b.d b.n b.operations b.errors b.choices
   pub hands : Handed s b.d b.n b.measurements
 
-pub opened : (s : List ℕ) {reading : Reading} {b : Numbers} → (answer_of reading ≡ read_book s) × (measured_of reading ≡ measured_by (part_of s 4) (answer_of reading))
-    → reading ≡ Taken b
+pub opened : (s : List ℕ) {reading : Result Numbers Refusal} {b : Numbers}
+    → answer_of reading ≡ read_book s → measured_of reading ≡ measured_by (part_of s 4) (answer_of reading) → reading ≡ Ok b
     → Opened s b
-opened s e f = record { reads = sym e.0 ∙ ap answer_of f; hands = handed s e f }
+opened s e counts f = record { reads = sym e ∙ ap answer_of f; hands = handed s e counts f }
 
 module _ {s : List ℕ} {b : Numbers} (book : Opened s b) (tray t out : List ℕ) where
   abbrev d : ℕ
@@ -62,14 +61,14 @@ module _ {s : List ℕ} {b : Numbers} (book : Opened s b) (tray t out : List ℕ
 
   module _ (table : table_fits tray ≡ true) where
     -- 6
-    pub bad-tray : {i : ℕ} → bad_shot d n b.operations tray ≡ At i → tray_refused 6 i out ≡ tray_book s tray t out
+    pub bad-tray : {i : ℕ} → bad_shot d n b.operations tray ≡ Some i → tray_refused 6 i out ≡ tray_book s tray t out
     unfolding tray_book tray_by_answer
     bad-tray e = rw (book.reads, table, e)
 
     pub sizes : (n ≤ 64) × (b.measurements ≤ 4096) × (shots_in tray ≤ 4096)
     sizes = (g.qudits, few-measured s g, (table_says tray table).few)
 
-    module _ (good : bad_shot d n b.operations tray ≡ Nowhere) where
+    module _ (good : bad_shot d n b.operations tray ≡ None) where
       -- 8
       pub short-book : tray_buffers_fit n b.measurements (shots_in tray) t out ≡ false → tray_refused 8 0 out ≡ tray_book s tray t out
       unfolding tray_book tray_by_answer

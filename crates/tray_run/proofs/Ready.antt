@@ -1,5 +1,6 @@
 -- What the tests of book, tray and tableau leave is what the shots' run is handed.
 -- Assumes nothing.
+use Rattle.std.proofs.Common.{None}
 use mathlib.Core.Path.{◌≡◌, sym}
 use mathlib.Core.Bool.{true}
 use mathlib.Core.List.{List}
@@ -8,7 +9,6 @@ use native.Mathlib.Omega.{arith}
 use lib.Dec.{eqb}
 use lib.ListN.{length}
 use borrow.Author.Tests.{leb-true}
-use Rattle.search.specs.declared.Place.TheVariants.{Nowhere}
 use Rattle.search.proofs.Search.{both}
 use Rattle.circuit.specs.Circuit.{Accepted}
 use Rattle.validity.specs.Validity.{Valid}
@@ -40,7 +40,7 @@ module _ (s : List ℕ) {d n measurements : ℕ} (g : Handed s d n measurements)
       let list = operations_of d n (part_of s 4) in
       omega (arith, g.counted-part, measured-chosen list (length list), g.lists.one_each, g.few)
 
-  module _ {operations errors choices : ℕ} (reads : read_book s ≡ accepted d n operations errors choices) (tray : List ℕ) (table : table_fits tray ≡ true) (good : bad_shot d n operations tray ≡ Nowhere) where
+  module _ {operations errors choices : ℕ} (reads : read_book s ≡ accepted d n operations errors choices) (tray : List ℕ) (table : table_fits tray ≡ true) (good : bad_shot d n operations tray ≡ None) where
     shot-accepted : (i : ℕ) → i < shots_in tray → Accepted d n (operations_of d n (part_of s 4)) (errors_of (shot_body tray i)) (part_of s 16)
     shot-accepted i l =
         let m = accepted-means s d n operations errors choices reads in

@@ -8,9 +8,9 @@ ghost use Rattle.book.specs.Decoded.{operations_of};
 ghost use Rattle.tray.specs.Tray.{shots_in};
 ghost use Rattle.shots.specs.Shots.{filled_by, shifted_among, tray_buffers_fit, tray_book};
 ghost use Rattle.shots_run.specs.Ready.{Ready};
+ghost use Rattle.tray_run.specs.Answers.{refusal, answered};
 
-use book_body::Reading;
-use search::Place;
+use answer::Refusal;
 
 // What a tray run returns: 0, the number of clean shots and the number of shifted ones; or a refusal's number, its place and 0.
 #[repr(C)]
@@ -21,21 +21,24 @@ pub struct TrayAnswer {
     pub shifted: usize,
 }
 
-fn refused(number: usize, place: usize) -> TrayAnswer
-    ensures { result ≡ record { number = number; place = place; shifted = 0 } }
-{
-    TrayAnswer {
-        number,
-        place,
-        shifted: 0,
+impl From<Refusal> for TrayAnswer {
+    ghost from_gives = { λ r a. a ≡ refusal r };
+
+    fn from(refusal: Refusal) -> TrayAnswer {
+        TrayAnswer {
+            number: refusal.number(),
+            place: refusal.place(),
+            shifted: 0,
+        }
     }
 }
 
 // Whether tableau and buffer are as long as they must be.
+#[tactic(auto, unfolding(shots::specs::Shots::tray_buffers_fit))]
 fn buffers_fit(t: &[u8], out: &[u8], measurements: usize, shots: usize, n: usize) -> bool
-    requires { (n ≤ 64)
-        × (measurements ≤ 4096)
-        × (shots ≤ 4096) }
+    requires qudits { n ≤ 64 }
+    requires few_measurements { measurements ≤ 4096 }
+    requires few_shots { shots ≤ 4096 }
     ensures { result ≡ tray_buffers_fit n measurements shots t.now out.now }
 {
     (2 * n * (2 * n + 1) + 2 <= t.len()) & (shots * (1 + 2 * measurements) <= out.len())
@@ -65,31 +68,27 @@ fn run_shots(
 }
 
 // The shots of a tray over a book's circuit, from the lent tableau: refusals 1 to 7 of the book, then 11, the tray's 6, 8 and 9.
-pub fn tray_run(book: &[u8], tray: &[u8], t: &[u8], out: &mut [u8]) -> TrayAnswer
-    ensures { record { number = result.number; place = result.place; shifted = result.shifted; out = out.new }
+#[tactic(auto, unfolding(shots::specs::Shots::tray_by_answer, shots::specs::Shots::tray_book))]
+fn run_or_refuse(book: &[u8], tray: &[u8], t: &[u8], out: &mut [u8]) -> Result<TrayAnswer, Refusal>
+    ensures { let a = answered result in
+        record { number = a.number; place = a.place; shifted = a.shifted; out = out.new }
         ≡ tray_book book.now tray.now t.now out.old }
 {
-    let reading = book::read(book);
-    let numbers = match reading {
-        Reading::Accepted(numbers) => numbers,
-        Reading::Refused { number, place } => {
-            return refused(casts::byte_as_usize(number), place);
-        }
-    };
+    let numbers = book::read(book)?;
     let d = numbers.d;
     let n = numbers.n;
     if !tray::table_fits(tray) {
-        return refused(11, 0);
+        return Err(Refusal::Table);
     }
-    if let Place::At(shot) = tray::bad_shot(tray, numbers.operations, d, n) {
-        return refused(6, shot);
+    if let Some(shot) = tray::bad_shot(tray, numbers.operations, d, n) {
+        return Err(Refusal::Shot(shot));
     }
     let shots = book_entries::word(tray, 0);
     if !buffers_fit(t, out, numbers.measurements, shots, n) {
-        return refused(8, 0);
+        return Err(Refusal::Length);
     }
     if !tableau_calls::is_valid_for(t, d, n) {
-        return refused(9, 0);
+        return Err(Refusal::Rows);
     }
     let shifted = run_shots(
         out,
@@ -102,9 +101,17 @@ pub fn tray_run(book: &[u8], tray: &[u8], t: &[u8], out: &mut [u8]) -> TrayAnswe
         n,
     );
     let clean = shots - shifted;
-    TrayAnswer {
+    Ok(TrayAnswer {
         number: 0,
         place: clean,
         shifted,
-    }
+    })
+}
+
+// Returns 0, the number of clean shots and that of shifted ones, or a refusal.
+pub fn tray_run(book: &[u8], tray: &[u8], t: &[u8], out: &mut [u8]) -> TrayAnswer
+    ensures { record { number = result.number; place = result.place; shifted = result.shifted; out = out.new }
+        ≡ tray_book book.now tray.now t.now out.old }
+{
+    run_or_refuse(book, tray, t, out).unwrap_or_else(TrayAnswer::from)
 }

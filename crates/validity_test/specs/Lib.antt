@@ -1,2 +1,1 @@
-pub mod Pairable
 pub mod Sums

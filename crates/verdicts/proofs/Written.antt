@@ -7,12 +7,13 @@ use mathlib.Core.List.{List}
 use Prim.Native.Nat.{ℕ, ◌+◌, ◌*◌, ◌<◌, ◌≤◌}
 use native.Mathlib.Decide.{ℕ_discrete, dec_lt}
 use native.Mathlib.Omega.{arith}
+use Rattle.std.specs.Int.{from_bool}
 use lib.ListN.{length, get_or, set, length-set}
 use lib.Seq.{get_or-set_same, get_or-set_other}
 use Rattle.search.specs.Search.{all}
+use Rattle.runs.specs.Frame.{verdict_of}
 use Rattle.tableau.proofs.Parts.{row_in, part_at}
 use Rattle.tile.specs.Tile.{shot_at}
-use Rattle.runs.specs.Frame.{verdict_of}
 use Rattle.verdicts.specs.Verdicts.{VerdictsWritten}
 
 pub verdict-small : (d n : ℕ) (F t : List ℕ) → verdict_of d n F t ≤ 1
@@ -22,6 +23,11 @@ verdict-small d n F t = by (all _ n)
     by : (b : Bool) → cond b 0 1 ≤ 1
     by true = omega arith
     by false = omega arith
+
+-- a test as a number
+pub byte_of : (b : Bool) → (from_bool b ≡ cond b 1 0) × (from_bool b ≤ 1)
+byte_of true = (refl, omega arith)
+byte_of false = (refl, omega arith)
 
 pub verdicts_none : {w used : ℕ} {f : ℕ → ℕ} {out : List ℕ} → VerdictsWritten w used 0 f out out
 verdicts_none = record { len = refl; first = λ i h. absurd (omega arith); rest = λ i b h g k. refl }

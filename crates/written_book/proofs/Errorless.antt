@@ -1,12 +1,12 @@
 -- An accepted book with other errors is read as it was, but for those errors. With none it is accepted.
 -- Assumes nothing.
+use Rattle.std.proofs.Common.{None}
 use mathlib.Core.Path.{◌≡◌, refl}
 use mathlib.Core.Bool.{true}
 use mathlib.Core.List.{List, []}
 use Prim.Native.Nat.{ℕ, ◌/◌}
 use native.Mathlib.Omega.{arith}
 use lib.ListN.{length}
-use Rattle.search.specs.declared.Place.TheVariants.{Nowhere}
 use Rattle.search.specs.Search.{first_not}
 use Rattle.book_body.specs.Body.{length_fits, bad_error, accepted, refuse_at, read_bodies}
 use Rattle.book_body.proofs.Sound.{no_refusal, Sound, all_sound}
@@ -32,7 +32,7 @@ module _ (s : List ℕ) {d n operations errors choices : ℕ} (e : read_book s �
   sound = all_sound _ _ _ _ _ (no_refusal d n operations errors choices) (rw (means.dimension, means.qudits) at passed.bodies)
 
   module _ (other : List ℕ) (whole : length_fits (length other) 5 2048 ≡ true) where
-    lengths : bad_lengths (length (part_of s operations_entry)) (length other) (length (part_of s choices_entry)) ≡ Nowhere
+    lengths : bad_lengths (length (part_of s operations_entry)) (length other) (length (part_of s choices_entry)) ≡ None
     lengths =
         rw (
           part_length s operations_entry (omega (arith, lies.second.offset, lies.third.offset, lies.ends)),

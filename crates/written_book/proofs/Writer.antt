@@ -1,5 +1,6 @@
 -- What the writer tells of d, n and the bodies, what it leaves, and that an accepted book is written again byte for byte.
 -- Assumes nothing.
+use Rattle.std.proofs.Common.{Option}
 use mathlib.Core.Path.{◌≡◌, refl, sym, ◌∙◌}
 use mathlib.Core.List.{List}
 use Prim.Native.Nat.{ℕ, ◌/◌, ◌<◌}
@@ -9,7 +10,6 @@ use lib.ListN.{length, drop}
 use lib.Seq.{take_at, drop_at}
 use borrow.Author.Tests.{le-leb}
 use Rattle.modular.specs.Dimension.{listed}
-use Rattle.search.specs.declared.Place.{Place}
 use Rattle.search.proofs.Search.{unless_cases}
 use Rattle.tableau.specs.Tableau.{sized}
 use Rattle.book_body.specs.Body.{length_fits, ReaderAnswer, accepted, refuse_at, read_bodies}
@@ -43,7 +43,7 @@ module _ (d n : ℕ) (ops errors choices : List ℕ) where
     OnAnswer : ReaderAnswer → Type 0
     OnAnswer x = read_book s ≡ x → P (write_by_answer s out x)
 
-    OnPlace : Place → Type 0
+    OnPlace : Option ℕ → Type 0
     OnPlace p = OnAnswer (refuse_at 4 p (read_bodies d n ops errors choices))
 
     pub write_cases : OnRefusal 2 0 → OnRefusal 3 0 → ((k : ℕ) → k < 3 → OnRefusal 4 k)

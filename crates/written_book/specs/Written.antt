@@ -1,8 +1,6 @@
 -- The book that d, n and three bodies make. The statements are proved in proofs/.
-use Rattle.std.specs.Prelude.{◌≡◌, List, [], ◌∷◌, ◌++◌, ℕ, ◌+◌, ◌/◌, ◌%◌, ◌<◌, length, get_or}
+use Rattle.std.specs.Prelude.{◌≡◌, List, [], ◌∷◌, ◌++◌, ℕ, ◌+◌, ◌/◌, ◌%◌, ◌<◌, length, get_or, Option, Some, None}
 use Rattle.modular.specs.Dimension.{listed}
-use Rattle.search.specs.declared.Place.{Place}
-use Rattle.search.specs.declared.Place.TheVariants.{At, Nowhere}
 use Rattle.search.specs.Search.{unless}
 use Rattle.tableau.specs.Tableau.{sized}
 use Rattle.book_body.specs.Body.{length_fits, ReaderAnswer, refused, accepted, refuse_at, read_bodies}
@@ -28,11 +26,11 @@ unfoldable pub book_of : ℕ → ℕ → List ℕ → List ℕ → List ℕ → 
 book_of d n ops errors choices = head_of d n (length ops) (length errors) (length choices) ++ (ops ++ (errors ++ choices))
 
 -- 4: the first body whose length is not whole entries, or too many
-abbrev pub bad_lengths : (a b c : ℕ) → Place
+abbrev pub bad_lengths : (a b c : ℕ) → Option ℕ
 bad_lengths a b c =
-    unless (length_fits a 4 4096) (At 0)
-    (unless (length_fits b 5 2048) (At 1)
-    (unless (length_fits c 1 4096) (At 2) Nowhere))
+    unless (length_fits a 4 4096) (Some 0)
+    (unless (length_fits b 5 2048) (Some 1)
+    (unless (length_fits c 1 4096) (Some 2) None))
 
 -- The answer for d, n and the bodies: 2, 3, then 4 by the bodies' lengths, then 5, 6 and 7.
 unfoldable pub read_parts : ℕ → ℕ → List ℕ → List ℕ → List ℕ → ReaderAnswer

@@ -1,5 +1,4 @@
--- `inverse::power` meets its contract: x times the square of s to the power j stays u to the power k.
--- Assumes nothing.
+-- x times the square of s to the power j stays u to the power k.
 use mathlib.Core.Path.{◌≡◌, sym, ap, ◌∙◌}
 use Prim.Native.Nat.{ℕ, ◌*◌, ◌/◌, ◌%◌, ◌<◌}
 use native.Mathlib.Nat.{mul-one, one-mul, mul_comm, mod-eq_of_lt}
@@ -7,28 +6,23 @@ use native.Mathlib.Omega.{arith}
 use Rattle.modular.specs.Dimension.{power_of}
 use Rattle.modular.proofs.Residue.{rest-less, exchange}
 use Rattle.modular.proofs.Powers.{power-less, power_even, power-odd}
-use Rattle.inverse.proofs.power.Goals.{After-mul-s, then-k-eq1, else-k-eq1, then-j-eq1, else-j-eq1}
+use Rattle.inverse.proofs.power.Goals.{then-k-eq1, else-k-eq1, then-j-eq1, else-j-eq1}
 use Rattle.inverse.proofs.power.Goals as goal
 
 pub loop-j-init : goal.loop-j-init
 loop-j-init c =
     let start = c in
-    let d = start.args.d in
+    let d = start.args.m.d in
     let u = start.args.u in
     let k = start.args.k in
     let one : 1 < d = omega arith in
     elim c.if-k-eq1.branch [
-      | then-k-eq1 w ↦ rw w.x-is (start.requires.0, start.requires.0, power-odd d u k w.if-k-eq1.true)
-      | else-k-eq1 w ↦ rw w.x-is (one, start.requires.0, ap (λ (p : ℕ). p % d) (mul-one _) ∙ mod-eq_of_lt (power-less d _ _ one) ∙ power_even d u k w.if-k-eq1.false)
+      | then-k-eq1 w ↦ rw w.x-is (start.requires.below, start.requires.below, power-odd d u k w.if-k-eq1.true)
+      | else-k-eq1 w ↦ rw w.x-is (one, start.requires.below, ap (λ (p : ℕ). p % d) (mul-one _) ∙ mod-eq_of_lt (power-less d _ _ one) ∙ power_even d u k w.if-k-eq1.false)
     ]
 
--- the square is below d
-square : (c : After-mul-s) → c.mul-s.result < c.args.d
-square c = rest-less _ (omega arith) c.mul-s.ensures
-
-pub mul-x-requires : goal.mul-x-requires
-mul-x-requires c =
-    (c.loop-j.invariant.0, square (goal.at.mul-x-requires c).After-mul-s, c.requires.1)
+pub mul-x-requires-clause-right : goal.mul-x-requires-clause-right
+mul-x-requires-clause-right c = rest-less _ (omega arith) c.mul-s.ensures
 
 -- where j is odd, one factor s goes from the power to x
 taken : (d s x j : ℕ) → j % 2 ≡ 1 → power_of d (s * s % d) (j / 2) * (x * s % d) % d ≡ power_of d s j * x % d
@@ -40,19 +34,19 @@ taken d s x j h =
 pub loop-j-preserved : goal.loop-j-preserved
 loop-j-preserved c =
     let start = c in
-    let d = start.args.d in
+    let d = start.args.m.d in
     let l = c.loop-j in
     let s = c.mul-s.result in
     let before : power_of d s l.j * l.x % d ≡ power_of d start.args.u start.args.k = rw c.mul-s.ensures l.invariant.2 in
     elim c.if-j-eq1.branch [
       | then-j-eq1 w ↦ rw w.x-is (
         rest-less _ (omega arith) w.mul-x.ensures,
-        square (goal.at.loop-j-preserved c).After-mul-s,
+        rest-less _ (omega arith) c.mul-s.ensures,
         rw w.mul-x.ensures (taken d s l.x l.j w.if-j-eq1.true) ∙ before,
       )
       | else-j-eq1 w ↦ rw w.x-is (
         l.invariant.0,
-        square (goal.at.loop-j-preserved c).After-mul-s,
+        rest-less _ (omega arith) c.mul-s.ensures,
         ap (λ (p : ℕ). p * l.x % d) (power_even d s l.j w.if-j-eq1.false) ∙ before,
       )
     ]
@@ -68,4 +62,4 @@ whole d s x j l z =
 pub returns : goal.returns
 returns c =
     let l = c.loop-j in
-    sym (whole c.args.d _ l.x l.j l.invariant.0 (omega arith)) ∙ l.invariant.2
+    sym (whole c.args.m.d _ l.x l.j l.invariant.0 (omega arith)) ∙ l.invariant.2

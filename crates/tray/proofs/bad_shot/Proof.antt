@@ -1,17 +1,16 @@
 -- `bad_shot` meets its contract.
 -- Assumes nothing.
+use Rattle.std.proofs.Common.{Option, Some, None}
 use native.Mathlib.Omega.{arith}
 use borrow.Author.Rules.{rules}
 use mathlib.Core.Path.{◌≡◌, refl, sym, ap, ap₂, ◌∙◌}
 use Prim.Native.Nat.{ℕ, ◌-◌, ◌+◌, ◌*◌, ◌≤◌, ◌<◌}
-use Rattle.search.specs.declared.Place.TheVariants.{At, Nowhere}
 use Rattle.tray.specs.Tray.{shots_in, length_at, start_of, good_shot, bad_shot}
 use Rattle.tray.proofs.Table.{table_says, body-inside, table-inside}
 use Rattle.search.specs.Search.{first_not}
 use Rattle.search.proofs.Search.{none_yet, found}
 use mathlib.Core.Bool.{true, false}
 use mathlib.Core.List.{List}
-use Rattle.search.specs.declared.Place.{Place}
 use native.Mathlib.Numerals.{add-one}
 use native.Mathlib.Nat.{le_antisymm, add-sub_cancel_left}
 use Rattle.tableau.specs.Tableau.{part}
@@ -19,16 +18,16 @@ use Rattle.book_body.specs.Body.{bad_error}
 use Rattle.tray.proofs.bad_shot.Statement.{statement}
 use Rattle.tray.proofs.bad_shot.Tie as tie
 
-fails : (s : List ℕ) (d n count start size i : ℕ) {r : Place} {k : ℕ} → start ≡ start_of s i → size ≡ length_at s i
-    → r ≡ bad_error d n count (part start size s) → r ≡ At k → good_shot d n count s i ≡ false
+fails : (s : List ℕ) (d n count start size i : ℕ) {r : Option ℕ} {k : ℕ} → start ≡ start_of s i → size ≡ length_at s i
+    → r ≡ bad_error d n count (part start size s) → r ≡ Some k → good_shot d n count s i ≡ false
 fails s d n count start size i a b e f = rw (← a, ← b, ← e, f)
 
-passes : (s : List ℕ) (d n count start size i : ℕ) {r : Place} → start ≡ start_of s i → size ≡ length_at s i
-    → r ≡ bad_error d n count (part start size s) → r ≡ Nowhere → good_shot d n count s i ≡ true
+passes : (s : List ℕ) (d n count start size i : ℕ) {r : Option ℕ} → start ≡ start_of s i → size ≡ length_at s i
+    → r ≡ bad_error d n count (part start size s) → r ≡ None → good_shot d n count s i ≡ true
 passes s d n count start size i a b e f = rw (← a, ← b, ← e, f)
 
 abbrev invariant-loop : tie.invariant-loop-i
-invariant-loop tray count d n shots start₀ i₀ start i = (i ≤ shots) × (start ≡ start_of tray i) × (first_not (good_shot d n count tray) i ≡ Nowhere)
+invariant-loop tray count d n shots start₀ i₀ start i = (i ≤ shots) × (start ≡ start_of tray i) × (first_not (good_shot d n count tray) i ≡ None)
 
 abbrev decreases-loop : tie.decreases-loop-i
 decreases-loop tray count d n shots start₀ i₀ start i = shots - i
@@ -83,7 +82,7 @@ bad-error-requires c κs = search rules
 enum_told : tie.Need-enum_told-1 invariant-loop decreases-loop
 enum_told c = search rules
 
-returns : tie.Need-returns-in-At invariant-loop decreases-loop
+returns : tie.Need-returns-in-Some invariant-loop decreases-loop
 unfolding bad_shot part
 returns c =
     let o = c in
@@ -92,7 +91,7 @@ returns c =
     let l : c.loop-i.i < shots_in s = omega (arith, w, c.loop-i-test.true) in
     found _ _ _ l c.loop-i.invariant.2
     (fails s o.args.d o.args.n o.args.count _ _ _ c.loop-i.invariant.1 c.word.ensures.0
-    (simp add-sub_cancel_left at c.bad_error.ensures) c.in-At.is)
+    (simp add-sub_cancel_left at c.bad_error.ensures) c.in-Some.is)
 
 enum-told-2 : tie.Need-enum_told-in_default invariant-loop decreases-loop
 enum-told-2 c = search rules

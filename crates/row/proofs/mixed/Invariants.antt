@@ -1,0 +1,6 @@
+use Rattle.std.proofs.Common.{◌≡◌, ◌*◌, ◌≤◌}
+use Rattle.row.specs.Row.{dot}
+use Rattle.row.proofs.mixed.Given as goal
+
+abbrev pub invariant-loop-k : goal.invariant-loop-k
+invariant-loop-k l = record { value : l.sum ≡ dot l.n l.v l.xs l.k; most : l.sum ≤ 900 * l.k }

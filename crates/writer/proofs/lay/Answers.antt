@@ -1,0 +1,7 @@
+use native.Mathlib.Nat.{add-sub_cancel_left}
+use Rattle.tableau.specs.Tableau.{put}
+use Rattle.writer.proofs.lay.Goals as goal
+
+pub returns : goal.returns
+unfolding put
+returns c = simp (c.copy_from_slice.ensures.after, add-sub_cancel_left)
