@@ -72,7 +72,7 @@ impl Refusal {
     }
 }
 
-// The line that the program prints, without its end.
+// The refusal as a line of the program's listing, without its end.
 impl fmt::Display for Refusal {
     ghost output = { λ r. Some (words r) };
 
@@ -96,10 +96,7 @@ impl From<Refusal> for Answer {
     ghost from_gives = { λ r a. a ≡ refusal r };
 
     fn from(refusal: Refusal) -> Answer {
-        Answer {
-            number: refusal.number(),
-            place: refusal.place(),
-        }
+        refused(refusal.number(), refusal.place())
     }
 }
 

@@ -43,7 +43,7 @@ NoFrames n v = (l : ℕ) → l < 256 → lane n v l ≡ no_frame n
 
 -- a block before its first operation: no frame in any lane, all errors of every lane still to come, and no result
 pub record BlockStart (clean : CleanRun) (errors : LaneErrors) (block : Block) : Type 0 where
-  pub dimension : errors.m.d ≡ clean.m.d
+  pub dimension : errors.d ≡ clean.m.d
   pub qudits : errors.n ≡ clean.n
   pub lanes : Lanes clean.m.d clean.n block.lanes
   pub empty : NoFrames clean.n block.lanes

@@ -63,7 +63,7 @@ impl Block {
         );
     }
 
-    // Operation k on each lane. The results of a measurement are held.
+    // Operation k on each lane; a gate is told by its code, before anything is decoded. The results of a measurement are held.
     fn perform(&mut self, out: &[u8], clean: &CleanRun, k: usize)
         requires at { AtOperation clean.now k self.old }
         requires reported { Reported clean.now self.old out.now }
@@ -73,6 +73,10 @@ impl Block {
         ensures queue { self.new.queue ≡ self.old.queue }
     {
         let n = clean.n;
+        if clean.ops[4 * k] < 6 {
+            lane_gate::perform(&mut self.lanes, clean.ops, k, clean.m, n);
+            return;
+        }
         match operation_codes::operation_of(clean.ops, k, clean.m.d, n) {
             Operation::Measure { q } => {
                 let j = self.held.first + self.held.count;
@@ -82,7 +86,7 @@ impl Block {
             }
             Operation::Reset { q } => lanes::change_lanes(&mut self.lanes, Reset { q }, clean.m, n),
             Operation::Correct { t, m: i } => self.correct(out, clean, t, i),
-            _ => lane_gate::perform(&mut self.lanes, clean.ops, k, clean.m, n),
+            _ => unreachable!(),
         }
     }
 

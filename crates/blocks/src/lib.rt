@@ -14,16 +14,16 @@ pub use tray_shots::TrayShots;
 
 // A shot, and where its errors begin in the tray. The number of shots stands for the end.
 #[derive(Clone, Copy)]
-struct Cursor {
-    shot: usize,
-    start: usize,
+pub struct Cursor {
+    pub shot: usize,
+    pub start: usize,
 }
 
 // How many shots of a block have errors, and where the block ends.
 #[derive(Clone, Copy)]
-struct Extent {
-    noisy: usize,
-    end: Cursor,
+pub struct Extent {
+    pub noisy: usize,
+    pub end: Cursor,
 }
 
 // Assigns a lane to each shot that has errors, until 256 lanes are taken or no shot is left. A shot without errors is written to the next
@@ -61,9 +61,9 @@ fn assign(spans: &mut [Span; 256], tray: &[u8], from: Cursor) -> Extent
 
 // Where a block ends, and how many of its shots are shifted.
 #[derive(Clone, Copy)]
-struct Advance {
-    end: Cursor,
-    shifted: usize,
+pub struct Advance {
+    pub end: Cursor,
+    pub shifted: usize,
 }
 
 impl TrayShots<'_> {
@@ -83,7 +83,7 @@ impl TrayShots<'_> {
         let errors = LaneErrors {
             tray: self.tray,
             spans,
-            m: self.clean.m,
+            d: self.clean.m.d,
             n: self.clean.n,
         };
         let w = self.clean.w;

@@ -1,5 +1,6 @@
 -- Worked cases; what other proofs use.
 pub mod Cases
+pub mod Count
 pub mod Plain
 pub mod Sound
 pub mod Answers

@@ -6,7 +6,6 @@ ghost use Rattle.operation.specs.Operation.{named};
 ghost use Rattle.book_body.specs.Body.{length_fits, all_plain, bad_operation, measurements, choice_takers, error_fits, bad_error, smaller, bad_choice, read_bodies, answer_of, measured_of, measured_by};
 
 use answer::Refusal;
-use book_entries::Entry;
 use operation::{Operation, WeylError};
 
 // The numbers of an accepted book.
@@ -43,7 +42,7 @@ fn names_earlier(operation: Operation, earlier: usize) -> bool
 fn all_plain(ops: &[u8], d: u8, n: usize) -> bool
     ensures { result ≡ all_plain d n ops.now }
 {
-    (0..ops.len() / 4).all(|k| Entry::at(ops, k).is_plain(d, n))
+    (0..ops.len() / 4).all(|k| book_entries::plain_at(ops, k, d, n))
 }
 
 // The first bad operation of any body.
@@ -52,14 +51,13 @@ fn bad_among(ops: &[u8], d: u8, n: usize) -> Option<usize>
 {
     let mut earlier = 0;
     for k in 0..ops.len() / 4 {
-        let entry = Entry::at(ops, k);
-        let Some(operation) = entry.decoded(d, n) else {
+        let Some(operation) = book_entries::operation_at(ops, k, d, n) else {
             return Some(k);
         };
         if !names_earlier(operation, earlier) {
             return Some(k);
         }
-        earlier += usize::from(entry.code == 6);
+        earlier += usize::from(ops[4 * k] == 6);
     }
     None
 }
@@ -79,18 +77,23 @@ fn bad_operation(ops: &[u8], plain: bool, d: u8, n: usize) -> Option<usize>
 fn measurements(ops: &[u8]) -> usize
     ensures { result ≡ measurements ops.now (length ops.now / 4) }
 {
-    (0..ops.len() / 4)
-        .filter(|k| Entry::at(ops, *k).code == 6)
-        .count()
+    let mut sum = 0;
+    for k in 0..ops.len() / 4 {
+        sum += usize::from(ops[4 * k] == 6);
+    }
+    sum
 }
 
 // How many of the operations are measurements or resets.
 fn choice_takers(ops: &[u8]) -> usize
     ensures { result ≡ choice_takers ops.now (length ops.now / 4) }
 {
-    (0..ops.len() / 4)
-        .filter(|k| matches!(Entry::at(ops, *k).code, 6 | 7))
-        .count()
+    let mut sum = 0;
+    for k in 0..ops.len() / 4 {
+        let code = ops[4 * k];
+        sum += usize::from((code == 6) | (code == 7));
+    }
+    sum
 }
 
 // How many choices the operations take, so many of them being measurements.

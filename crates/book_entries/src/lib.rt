@@ -23,6 +23,37 @@ pub fn times_in(b: u8) -> u8
     b.max(1)
 }
 
+// The operation of a code. Nothing is tested: for bytes that a reader has accepted.
+#[tactic(auto, unfolding(crate::specs::Entry::coded))]
+pub fn coded(b0: u8, b1: usize, b2: usize, b3: u8) -> Operation
+    requires { b2 < 256 }
+    ensures { result ≡ coded b0 b1 b2 b3 }
+{
+    let times = times_in(b3);
+    match b0 {
+        0 => Operation::Fourier { q: b1, times },
+        1 => Operation::PhaseGate { q: b1, times },
+        2 => Operation::Sum {
+            c: b1,
+            t: b2,
+            times,
+        },
+        3 => Operation::Cz {
+            c: b1,
+            t: b2,
+            times,
+        },
+        4 => Operation::Swap { c: b1, t: b2 },
+        5 => Operation::Multiplier { q: b1, u: b3 },
+        6 => Operation::Measure { q: b1 },
+        7 => Operation::Reset { q: b1 },
+        _ => Operation::Correct {
+            t: b1,
+            m: b2 + 256 * usize::from(b3),
+        },
+    }
+}
+
 // An entry of operations: its code; q or c; t; how often, or u. Of a correction the first is t, and the last two are m, low byte first.
 #[derive(Clone, Copy, Debug, PartialEq, Eq)]
 pub struct Entry {
@@ -110,28 +141,16 @@ impl Entry {
             & (((self.code == 7) & ((self.second == 0) & (self.last == 0))) | (self.code == 8))
     }
 
-    // The operation of a code. Nothing is tested: for bytes that a reader has accepted.
-    #[tactic(auto, unfolding(crate::specs::Entry::coded))]
+    // The operation of its code.
     pub fn coded(self) -> Operation
         ensures { result ≡ coded self.code self.first self.second self.last }
     {
-        let q = usize::from(self.first);
-        let t = usize::from(self.second);
-        let times = times_in(self.last);
-        match self.code {
-            0 => Operation::Fourier { q, times },
-            1 => Operation::PhaseGate { q, times },
-            2 => Operation::Sum { c: q, t, times },
-            3 => Operation::Cz { c: q, t, times },
-            4 => Operation::Swap { c: q, t },
-            5 => Operation::Multiplier { q, u: self.last },
-            6 => Operation::Measure { q },
-            7 => Operation::Reset { q },
-            _ => Operation::Correct {
-                t: q,
-                m: t + 256 * usize::from(self.last),
-            },
-        }
+        coded(
+            self.code,
+            usize::from(self.first),
+            usize::from(self.second),
+            self.last,
+        )
     }
 
     // The operation that four bytes are, for dimension d and n qudits.

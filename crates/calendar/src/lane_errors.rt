@@ -3,8 +3,6 @@
 ghost use Rattle.std.specs.Prelude.{◌≡◌, ◌<◌};
 ghost use Rattle.calendar.specs.LaneErrors.{body_at, LaneBodies};
 
-use modular::Modulus;
-
 // Where the errors of a lane lie in the tray: `size` bytes from `start` on.
 #[derive(Clone, Copy)]
 pub struct Span {
@@ -17,9 +15,9 @@ pub struct Span {
 pub struct LaneErrors<'a> {
     pub tray: &'a [u8],
     pub spans: [Span; 256],
-    pub m: Modulus,
+    pub d: u8,
     pub n: usize,
-    pub ghost bodies: { LaneBodies m.d n tray.now spans },
+    pub ghost bodies: { LaneBodies d n tray.now spans },
 }
 
 impl LaneErrors<'_> {

@@ -3,7 +3,7 @@
 #![tactic(auto)]
 
 ghost use Rattle.std.specs.Prelude.{◌≡◌, ◌∷◌, ◌+◌, ◌*◌, ◌≤◌, length};
-ghost use Rattle.tableau.specs.Tableau.{put};
+ghost use Rattle.tableau.specs.Tableau.{part, put};
 ghost use Rattle.expand.specs.Expand.{noisy_among, shot_row_of, RowsRoom, Expanded};
 
 use book_entries::word;
@@ -14,7 +14,19 @@ fn clean_row(row: &mut [u8], clean: &[u8])
     ensures { row.new ≡ 0 ∷ clean.now }
 {
     row[0] = 0;
-    row[1..].copy_from_slice(clean);
+    tableau::copy(&mut row[1..], clean);
+}
+
+// The w bytes from `to` on become those from `from` on, which lie before them. (By index: `copy_within` would be a function of C that the
+// library needs from outside, memmove.)
+fn move_row(out: &mut [u8], from: usize, to: usize, w: usize)
+    requires before { from + w ≤ to }
+    requires room { to + w ≤ length out.old }
+    ensures { out.new ≡ put to w (part from w out.old) out.old }
+{
+    for j in 0..w {
+        out[to + j] = out[from + j];
+    }
 }
 
 // The row of shot first + i, when `noisy` shots up to it have errors. How many before it have some is returned.
@@ -40,7 +52,7 @@ fn row_at(
     }
     let before = noisy - 1;
     let from = before * w;
-    out.copy_within(from..from + w, s);
+    move_row(out, from, s, w);
     before
 }
 

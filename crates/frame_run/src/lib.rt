@@ -1,7 +1,7 @@
 // The frame run.
 #![tactic(auto)]
 
-ghost use Rattle.std.specs.Prelude.{◌≡◌, ◌≤◌, length};
+ghost use Rattle.std.specs.Prelude.{◌≡◌, ◌≤◌, length, IfOk};
 ghost use Rattle.validity.specs.Validity.{Valid};
 ghost use Rattle.saved_tableau.specs.Saved.{rows_in, tableau_bytes};
 ghost use Rattle.circuit.specs.Circuit.{measurement_count};
@@ -139,7 +139,8 @@ pub fn run_or_refuse(
     shifts: &mut [u8],
     frame: &mut [u8],
 ) -> Result<FrameAnswer, Refusal>
-    ensures { frame_left (answered result) (buffers_of t.new results.new shifts.new frame.new)
+    ensures done { IfOk result (λ answer. answer.number ≡ 0) }
+    ensures left { frame_left (answered result) (buffers_of t.new results.new shifts.new frame.new)
         ≡ frame_book book.now (buffers_of t.old results.old shifts.old frame.old) }
 {
     let numbers = book::read(book)?;

@@ -25,7 +25,7 @@ fn enqueue_all(queue: &mut Queue)
 // The bytes of the first `used` shots, with room of its own for the frames, their queue and their results. How many shots are shifted is
 // returned.
 pub fn fill(out: &mut [u8], clean: &CleanRun, errors: &LaneErrors, used: usize) -> usize
-    requires dimension { errors.now.m.d ≡ clean.now.m.d }
+    requires dimension { errors.now.d ≡ clean.now.m.d }
     requires qudits { errors.now.n ≡ clean.now.n }
     requires clean_run { CleanShots clean.now.m.d clean.now.n clean.now.ops.now clean.now.results.now clean.now.t.now clean.now.w }
     requires shots { ShotsRoom clean.now.w used out.old }

@@ -62,6 +62,11 @@ module _ (d n : ℕ) (pivot : List ℕ) (r : Row d n pivot) (h : ℕ) where
       ∙ ap (λ (z : ℕ). z % d) o
       ∙ phase_multiple d n h pivot pivot (power d n h pivot) (power-multiple pivot own) (phase_of n pivot + x))
 
+-- the first entry behind the powers made so far is the next one
+parted : (a b : List (List ℕ)) (v : List ℕ) → set (a ++ b) (length a) v ≡ a ++ set b 0 v
+parted [] b v = refl
+parted (x ∷ a) b v = ap (λ (z : List (List ℕ)). x ∷ z) (parted a b v)
+
 module _ (d n : ℕ) (pivot : List ℕ) where
   -- power 0 is zeros
   pub power-none : 0 < d → replicate (2 * n + 1) 0 ≡ power d n 0 pivot
@@ -83,7 +88,7 @@ module _ (d n : ℕ) (pivot : List ℕ) where
       }
 
   -- one more
-  pub powers_more : (p : List (List ℕ)) (h : ℕ) (v : List ℕ) → PowersOf d n pivot p (h + 1) → h + 1 < length p → take (2 * n + 1) v ≡ power d n (h + 1) pivot
+  powers_more : (p : List (List ℕ)) (h : ℕ) (v : List ℕ) → PowersOf d n pivot p (h + 1) → h + 1 < length p → take (2 * n + 1) v ≡ power d n (h + 1) pivot
       → PowersOf d n pivot (set p (h + 1) v) (h + 1 + 1)
   powers_more p h v q l e =
       record {
@@ -93,3 +98,8 @@ module _ (d n : ℕ) (pivot : List ℕ) where
             (λ b. ap (take (2 * n + 1)) (get_or-set_other p (h + 1) g v [] (λ x. omega arith)) ∙ q.at_place g b)
             (eq-or-lt_of_le c);
       }
+
+  -- one more, made in the part behind those that are there
+  pub powers_joined : (p a b : List (List ℕ)) (h : ℕ) (v : List ℕ) → p ≡ a ++ b → length a ≡ h + 1 → PowersOf d n pivot p (h + 1) → h + 1 < length p
+      → take (2 * n + 1) v ≡ power d n (h + 1) pivot → PowersOf d n pivot (a ++ set b 0 v) (h + 1 + 1)
+  powers_joined p a b h v e l q k t = rw (← parted a b v, l, ← e) (powers_more p h v q k t)

@@ -12,20 +12,19 @@ ghost use Rattle.measurement_collapse.specs.Changing.{selected, on_selected};
 
 use modular::Modulus;
 
-// The pivot times one of its powers v is the next: its powers are the sums of theirs, and its phase is r. There is room for 64 qudits.
-fn next_power(pivot: &[u8], v: &[u8], r: u8, m: Modulus, n: usize) -> [u8; 144]
+// The pivot times one of its powers v is the next: its powers are the sums of theirs, and its phase is r. It is made where it stays: with
+// few qudits a copy of 144 bytes would cost more than it has bytes.
+fn next_power(next: &mut [u8; 144], pivot: &[u8], v: &[u8], r: u8, m: Modulus, n: usize)
     requires few { n ≤ 64 }
     requires pivot { Row m.d n pivot.now }
     requires before { Row m.d n v.now }
-    ensures { take (2 * n + 1) result ≡ row_of n (sum_at m.d pivot.now v.now) r }
+    ensures { take (2 * n + 1) next.new ≡ row_of n (sum_at m.d pivot.now v.now) r }
 {
     let last = 2 * n;
-    let mut next = [0; 144];
     for j in 0..last {
         next[j] = modular::add(m.d, pivot[j], v[j]);
     }
     next[last] = r;
-    next
 }
 
 // Every power of the pivot, made once for all rows; p has power 0 already, which is zeros. From power h to the next one the phase gains
@@ -44,7 +43,8 @@ fn fill_powers(p: &mut [[u8; 144]], pivot: &[u8], m: Modulus, n: usize)
     for h in 0..usize::from(m.d) - 1 {
         phase = modular::add(m.d, phase, gain);
         gain = modular::add(m.d, gain, own);
-        p[h + 1] = next_power(pivot, &p[h][..w], phase, m, n);
+        let (made, rest) = p.split_at_mut(h + 1);
+        next_power(&mut rest[0], pivot, &made[h][..w], phase, m, n);
     }
 }
 

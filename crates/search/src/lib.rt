@@ -1,12 +1,2 @@
-// The answer of a search, and a test as a number.
+// Checks in order, and the first failure; no code.
 #![tactic(auto)]
-
-ghost use Rattle.std.specs.Prelude.{◌≡◌, cond, ◌≤◌};
-
-// 1 where the test holds, else 0.
-pub fn one_if(test: bool) -> usize
-    ensures { (result ≡ cond test 1 0)
-        × (result ≤ 1) }
-{
-    if test { 1 } else { 0 }
-}

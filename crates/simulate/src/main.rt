@@ -5,7 +5,6 @@ ghost use Rattle.std.specs.Prelude.{◌≡◌, ◌+◌, ◌*◌, ◌<◌, ◌≤
 
 use answer::Refusal;
 use book_body::Numbers;
-use std::io;
 use std::io::Read;
 
 // What is listed of a book that ran: its numbers and what the run left.
@@ -34,29 +33,51 @@ fn run(book: &[u8]) -> Result<Listing, Refusal> {
     })
 }
 
+// Every piece is written by itself: one that cannot be written is left out, and the next is still tried.
+fn write_words(rt: &impl Print, words: &[u8]) {
+    let _ = rt.write_all(words);
+}
+
+fn write(rt: &impl Print, words: &[u8], value: usize) {
+    write_words(rt, words);
+    let mut digits = itoa::Buffer::new();
+    write_words(rt, digits.format(value).as_bytes());
+}
+
+fn refuse(rt: &impl Print, refusal: Refusal) {
+    write(rt, b"refused ", refusal.number());
+    write(rt, b" at ", refusal.place());
+    write_words(rt, b"\n");
+}
+
 // A line for each operation of code 6: its number, its qudit, its kind and its reported result.
-fn print_measurements(rt: &impl Print, ops: &[u8], results: &[u8]) -> io::Result<()> {
+fn print_measurements(rt: &impl Print, ops: &[u8], results: &[u8]) {
     let measured = ops.chunks_exact(4).filter(|entry| entry[0] == 6);
     let qudits = measured.map(|entry| entry[1]);
     for (j, (qudit, result)) in qudits.zip(results.chunks_exact(2)).enumerate() {
-        let kind = if result[1] == 0 { "certain" } else { "free" };
-        let outcome = result[0];
-        println!(rt; "m {j} qudit {qudit} {kind} {outcome}")?;
+        write(rt, b"m ", j);
+        write(rt, b" qudit ", usize::from(qudit));
+        let outcome = usize::from(result[0]);
+        if result[1] == 0 {
+            write(rt, b" certain ", outcome);
+        } else {
+            write(rt, b" free ", outcome);
+        }
+        write_words(rt, b"\n");
     }
-    Ok(())
 }
 
 // Each row's shift, in row order.
-fn print_shifts(rt: &impl Print, shifts: &[u8]) -> io::Result<()> {
-    print!(rt; "shift")?;
+fn print_shifts(rt: &impl Print, shifts: &[u8]) {
+    write_words(rt, b"shift");
     for shift in shifts {
-        print!(rt; " {shift}")?;
+        write(rt, b" ", usize::from(*shift));
     }
-    println!(rt; "")
+    write_words(rt, b"\n");
 }
 
 impl Listing {
-    fn print(&self, rt: &impl Print, ops: &[u8]) -> io::Result<()> {
+    fn print(&self, rt: &impl Print, ops: &[u8]) {
         let Numbers {
             d,
             n,
@@ -64,18 +85,21 @@ impl Listing {
             errors,
             ..
         } = self.numbers;
-        println!(rt; "d {d} n {n} operations {operations} errors {errors}")?;
-        print_measurements(rt, ops, &self.results)?;
+        write(rt, b"d ", usize::from(d));
+        write(rt, b" n ", n);
+        write(rt, b" operations ", operations);
+        write(rt, b" errors ", errors);
+        write_words(rt, b"\n");
+        print_measurements(rt, ops, &self.results);
         // always so for an accepted book; the test spares a proof of it
         if n <= 64 {
-            print_shifts(rt, &self.shifts[..2 * n])?;
+            print_shifts(rt, &self.shifts[..2 * n]);
         }
-        let verdict = if self.verdict == 0 {
-            "clean"
+        if self.verdict == 0 {
+            write_words(rt, b"verdict clean\n");
         } else {
-            "shifted"
-        };
-        println!(rt; "verdict {verdict}")
+            write_words(rt, b"verdict shifted\n");
+        }
     }
 }
 
@@ -83,12 +107,10 @@ fn main(rt: HostRuntime) {
     let mut buffer = [0; 30743];
     let length = read_full(&mut rt.stdin(), &mut buffer);
     let book = &buffer[..length];
-    let printed = match run(book) {
+    match run(book) {
         Ok(listing) => listing.print(&rt, book::body(book, 1)),
-        Err(refusal) => rt.println(refusal),
-    };
-    // Where nothing more can be written the listing breaks off, and that it has no last line says so.
-    let _ = printed;
+        Err(refusal) => refuse(&rt, refusal),
+    }
 }
 
 // Reads until the buffer is full, the input ends or a read fails: how many bytes there are.

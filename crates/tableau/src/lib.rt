@@ -38,7 +38,7 @@ pub fn is_sized(n: usize) -> bool
     (1..=64).contains(&n)
 }
 
-// dst becomes src. Nothing calls this any more (`copy_from_slice`); it stays for its must-fail edit, first_byte_copied.
+// dst becomes src. (For short parts: `copy_from_slice` is a call of memcpy, whatever the length.)
 pub fn copy(dst: &mut [u8], src: &[u8])
     requires { length dst.old ≡ length src.now }
     ensures { dst.new ≡ src.now }

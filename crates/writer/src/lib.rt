@@ -37,12 +37,12 @@ pub fn head_of(d: u8, n: u8, a: usize, b: usize, c: usize) -> [u8; 22]
     head
 }
 
-// The bytes become those of `out` from byte `at` on.
+// The bytes become those of `out` from byte `at` on. (`copy_from_slice` would be C's memmove here, which a host would have to bring.)
 pub fn lay(out: &mut [u8], at: usize, bytes: &[u8])
     requires { at + length bytes.now ≤ length out.old }
     ensures { out.new ≡ put at (length bytes.now) bytes.now out.old }
 {
-    out[at..at + bytes.len()].copy_from_slice(bytes);
+    tableau::copy(&mut out[at..at + bytes.len()], bytes);
 }
 
 // 4: the first body whose length is not whole entries, or too many.

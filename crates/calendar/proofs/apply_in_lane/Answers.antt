@@ -31,18 +31,18 @@ returns-then-place-k-clause-reached c = later c
 pub returns-then-place-k-clause-next : goal.returns-then-place-k-clause-next
 returns-then-place-k-clause-next c = rw c.word-place.ensures.0 (place_inside c.args.errors.now c.loop-i.i c.loop-i-test.true)
 
-pub change_lane-requires-clause-lane : goal.change_lane-requires-clause-lane
-change_lane-requires-clause-lane c =
+pub apply_error-requires-clause-lane : goal.apply_error-requires-clause-lane
+apply_error-requires-clause-lane c =
     let p = c.loop-i.invariant.lanes in
     record { dimension = p.dimension; qudits = p.qudits; inside = c.requires.lane_in; room = p.room; powers = p.powers _ c.requires.lane_in }
 
-pub change_lane-requires-clause-operands : goal.change_lane-requires-clause-operands
-change_lane-requires-clause-operands c =
+pub apply_error-requires-clause-operands : goal.apply_error-requires-clause-operands
+apply_error-requires-clause-operands c =
     let es = c.args.errors.now in
     let i = c.loop-i.i in
     let in_list : i < length (errors_of es) = omega (arith, error-count es) in
     let entry = error-at es i (omega arith) ∙ sym c.error_at-e.ensures in
-    error-facts c.args.m.d c.args.n c.error_at-e.result (rw (← entry) (c.requires.in_order.each i in_list))
+    error-facts c.args.d c.args.n c.error_at-e.result (rw (← entry) (c.requires.in_order.each i in_list))
 
 pub loop-i-preserved : goal.loop-i-preserved
 loop-i-preserved c =
@@ -54,8 +54,8 @@ loop-i-preserved c =
     let here : (err_at (errors_of es) i).place ≡ a.k = place_at es i (omega arith) ∙ sym c.word-place.ensures.0 ∙ c.if-place-k.false in
     record {
       passing = passing-more c.loop-i.invariant.passing in_list here;
-      applying = applying_more here c.loop-i.invariant.applying (rw entry c.change_lane.ensures.changed);
-      lanes = c.change_lane.ensures.lanes c.loop-i.invariant.lanes;
+      applying = applying_more here c.loop-i.invariant.applying (rw entry c.apply_error.ensures.changed);
+      lanes = c.apply_error.ensures.lanes c.loop-i.invariant.lanes;
     }
 
 -- the end of the list

@@ -9,4 +9,4 @@ whole [] x ys clean h e = absurd (omega arith)
 whole (y ∷ zs) x ys clean h e = let q : length (x ∷ zs) - 1 ≡ length zs = omega arith in rw (q, drop-length zs, append-nil ys, e)
 
 pub returns : goal.returns
-returns c = whole c.args.row.now 0 _ c.args.clean.now c.requires c.copy_from_slice.ensures.after
+returns c = whole c.args.row.now 0 _ c.args.clean.now c.requires c.copy.ensures

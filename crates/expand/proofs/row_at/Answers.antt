@@ -6,7 +6,6 @@ use Rattle.tableau.proofs.Parts.{row_in}
 use Rattle.expand.specs.Expand.{noisy_among}
 use Rattle.expand.proofs.Noisy.{noisy_none, noisy_one}
 use Rattle.expand.proofs.Places.{row-clean, row_noisy}
-use Rattle.expand.proofs.Bytes.{moved}
 use Rattle.expand.proofs.row_at.Goals as goal
 use Rattle.expand.proofs.row_at.Goals.{Then-word-eq0, Else-word-eq0}
 
@@ -36,20 +35,18 @@ overflow_sub-before c = omega (arith, one c)
 pub returns-clause-noisy_before : goal.returns-clause-noisy_before
 returns-clause-noisy_before c = omega (arith, one (goal.at.returns-clause-noisy_before c).Else-word-eq0)
 
+pub move_row-requires-clause-before : goal.move_row-requires-clause-before
+move_row-requires-clause-before c =
+    row_in (c.args.noisy - 1) c.args.i c.args.w (omega (arith, one (goal.at.move_row-requires-clause-before c).Else-word-eq0))
+
+pub move_row-requires-clause-room : goal.move_row-requires-clause-room
+move_row-requires-clause-room c = omega (arith, c.requires.rows.room)
+
 pub returns-clause-row : goal.returns-clause-row
 returns-clause-row c =
     let a = c.args in
     let more = one (goal.at.returns-clause-row c).Else-word-eq0 in
     let before : a.noisy - 1 ≡ noisy_among a.tray.now a.first a.i = omega (arith, more) in
-    let apart = row_in (a.noisy - 1) a.i a.w (omega (arith, more)) in
-    let e = simp add-sub_cancel_left at c.copy_within.ensures.by_index in
-    let is = moved ((a.noisy - 1) * a.w) (a.i * a.w) a.w a.out.now _ (omega (arith, apart, c.requires.rows.room)) (omega (arith, c.requires.rows.room))
-    (record {
-      len = c.copy_within.ensures.len;
-      done = λ b h. let q : a.i * a.w + b - a.i * a.w ≡ b = omega arith in rw q at (e.0 (a.i * a.w + b) 0 (omega arith) (omega arith));
-      left = λ b h. e.1 b 0 h;
-      right = λ b h. e.2 b 0 h;
-    }) in
-    is
+    c.move_row.ensures
     ∙ ap (λ (ys : List ℕ). put (a.i * a.w) a.w ys a.out.now)
     (ap (λ (y : ℕ). part (y * a.w) a.w a.out.now) before ∙ sym (row_noisy a.tray.now a.first a.clean.now a.w a.out.now a.i (λ z. c.if-word-eq0.false (c.word.ensures.0 ∙ z))))

@@ -1,6 +1,7 @@
 -- What each test leaves is what the next step is handed.
+use Rattle.std.proofs.Common.{ap}
 use Rattle.book.proofs.Handed.{handed, bodies_of}
-use Rattle.frame_run.specs.FrameBook.{buffers_of}
+use Rattle.frame_run.specs.FrameBook.{FrameLeft, buffers_of}
 use Rattle.frame_run.proofs.Books.{short-book, rooms, invalid-book, rows, run_book}
 use Rattle.frame_run.proofs.run_or_refuse.Goals as goal
 
@@ -13,9 +14,10 @@ pub returns-then-not-buffers_fit : goal.returns-then-not-buffers_fit
 returns-then-not-buffers_fit c =
     let a = c.args in
     let g = handed a.book.now c.read.ensures.answer c.read.ensures.measured c.in_ok-numbers.was in
-    short-book a.book.now g
-    (buffers_of a.t.now a.results.now a.shifts.now a.frame.now)
-    c.buffers_fit.ensures c.if-not-buffers_fit.true
+    record {
+      done = tt;
+      left = short-book a.book.now g (buffers_of a.t.now a.results.now a.shifts.now a.frame.now) c.buffers_fit.ensures c.if-not-buffers_fit.true;
+    }
 
 pub is_valid_for-requires : goal.is_valid_for-requires
 is_valid_for-requires c =
@@ -31,9 +33,11 @@ pub returns-then-not-is_valid_for : goal.returns-then-not-is_valid_for
 returns-then-not-is_valid_for c =
     let a = c.args in
     let g = handed a.book.now c.read.ensures.answer c.read.ensures.measured c.in_ok-numbers.was in
-    invalid-book a.book.now g
-    (buffers_of a.t.now a.results.now a.shifts.now a.frame.now)
-    c.buffers_fit.ensures c.if-not-buffers_fit.false c.is_valid_for.ensures c.if-not-is_valid_for.true
+    record {
+      done = tt;
+      left = invalid-book a.book.now g (buffers_of a.t.now a.results.now a.shifts.now a.frame.now)
+          c.buffers_fit.ensures c.if-not-buffers_fit.false c.is_valid_for.ensures c.if-not-is_valid_for.true;
+    }
 
 pub operations-ops-requires : goal.operations-ops-requires
 operations-ops-requires c =
@@ -73,7 +77,9 @@ pub returns : goal.returns
 returns c =
     let a = c.args in
     let g = handed a.book.now c.read.ensures.answer c.read.ensures.measured c.in_ok-numbers.was in
-    run_book a.book.now g
-    (buffers_of a.t.now a.results.now a.shifts.now a.frame.now)
-    c.buffers_fit.ensures c.if-not-buffers_fit.false c.is_valid_for.ensures c.if-not-is_valid_for.false
-    (rw (c.operations-ops.ensures, c.errors-errors.ensures, c.choices-choices.ensures) at c.run.ensures)
+    record {
+      done = ap (λ (left : FrameLeft). left.number) c.run.ensures;
+      left = run_book a.book.now g (buffers_of a.t.now a.results.now a.shifts.now a.frame.now)
+          c.buffers_fit.ensures c.if-not-buffers_fit.false c.is_valid_for.ensures c.if-not-is_valid_for.false
+          (rw (c.operations-ops.ensures, c.errors-errors.ensures, c.choices-choices.ensures) at c.run.ensures);
+    }

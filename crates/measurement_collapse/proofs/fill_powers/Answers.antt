@@ -1,10 +1,10 @@
 -- The next phase, its gain and the next power are what the invariant says of them.
-use Rattle.std.proofs.Common.{◌*◌, ◌<◌, sym, ◌∙◌, arith}
+use Rattle.std.proofs.Common.{◌+◌, ◌*◌, ◌<◌, [], take, sym, ap, ◌∙◌, arith}
 use Rattle.modular.proofs.Residue.{rest-less}
 use Rattle.row.specs.Row.{phase_of, dot}
 use Rattle.row.proofs.Laws.{power-row}
 use Rattle.measurement_collapse.proofs.Exponents.{gain-none, gain-more}
-use Rattle.measurement_collapse.proofs.Powers.{next-power, phase-more, phase-none, powers_more}
+use Rattle.measurement_collapse.proofs.Powers.{next-power, phase-more, phase-none, powers_joined}
 use Rattle.measurement_collapse.proofs.fill_powers.Goals as goal
 
 pub loop-h-init : goal.loop-h-init
@@ -23,7 +23,7 @@ add-phase-requires c =
 pub next_power-requires-clause-before : goal.next_power-requires-clause-before
 next_power-requires-clause-before c =
     let a = c.args in
-    let e = c.loop-h.invariant.1.at_place c.loop-h.h (omega arith) in
+    let e = ap (take (2 * a.n + 1)) (c.split_at_mut-made.ensures.by_index.0 c.loop-h.h [] (omega arith)) ∙ c.loop-h.invariant.1.at_place c.loop-h.h (omega arith) in
     rw e (power-row a.m.d a.n c.loop-h.h a.pivot.now (omega arith))
 
 pub loop-h-preserved : goal.loop-h-preserved
@@ -33,9 +33,10 @@ loop-h-preserved c =
     let d = a.m.d in
     let v = a.pivot.now in
     let x = c.add-phase.ensures ∙ phase-more d a.n v c.requires.pivot l.h _ _ l.invariant.2 l.invariant.3 in
-    let e = rw (l.invariant.1.at_place l.h (omega arith)) at c.next_power.ensures in (
+    let s = c.split_at_mut-made.ensures in
+    let e = rw (ap (take (2 * a.n + 1)) (s.by_index.0 l.h [] (omega arith)) ∙ l.invariant.1.at_place l.h (omega arith)) at c.next_power.ensures in (
       omega arith,
-      powers_more d a.n v l.p l.h _ l.invariant.1 (omega arith) (e ∙ next-power d a.n v c.requires.pivot l.h _ x),
+      powers_joined d a.n v l.p _ _ l.h _ s.value s.front_len l.invariant.1 (omega arith) (e ∙ next-power d a.n v c.requires.pivot l.h _ x),
       x,
       c.add-gain.ensures
           ∙ rw (l.invariant.3, c.reduce_wide-own.ensures, c.from.ensures, c.dot.ensures.0)

@@ -1,6 +1,5 @@
 -- The loop makes the powers, and the phase is stored behind them.
-use Rattle.std.proofs.Common.{ℕ, replicate, arith}
-use lib.ListN.{length-replicate}
+use Rattle.std.proofs.Common.{arith}
 use Rattle.row.specs.Row.{sum_at}
 use Rattle.row.proofs.Fill.{filled_none, filled_more, filled-all}
 use Rattle.measurement_collapse.proofs.Powers.{filled_front}
@@ -15,4 +14,4 @@ loop-j-preserved c = filled_more _ _ _ _ c.loop-j.invariant (omega arith) _ c.ad
 pub returns : goal.returns
 returns c =
     rw (filled-all _ _ _ _ _ c.loop-j.invariant (omega arith) c.loop-j-test.false)
-    (filled_front (sum_at c.args.m.d c.args.pivot.now c.args.v.now) (replicate 144 0) c.args.n c.args.r (omega (arith, length-replicate {A = ℕ} 144 0)))
+    (filled_front (sum_at c.args.m.d c.args.pivot.now c.args.v.now) c.args.next.now c.args.n c.args.r (omega arith))

@@ -4,4 +4,4 @@ use Rattle.writer.proofs.lay.Goals as goal
 
 pub returns : goal.returns
 unfolding put
-returns c = simp (c.copy_from_slice.ensures.after, add-sub_cancel_left)
+returns c = simp (c.copy.ensures, add-sub_cancel_left)

@@ -2,14 +2,29 @@ use Rattle.std.proofs.Common.{◌≡◌, ℕ, ◌+◌, ◌*◌, ◌/◌, ◌<◌
 use Rattle.operation.specs.Operation.{allowed}
 use Rattle.circuit.specs.Circuit.{kind}
 use Rattle.book.proofs.Lists.{op-count}
+use Rattle.operation_codes.proofs.Codes.{code-gate, code-no-gate}
 use Rattle.block.specs.declared.clean.CleanRun.{CleanRun}
-use Rattle.block.specs.Block.{operation_in, results_in, measured-to, reset, corrected}
+use Rattle.block.specs.Block.{operation_in, results_in, gated, measured-to, reset, corrected}
 use Rattle.block.proofs.Results.{measured-room, corrected-room}
 use Rattle.block.proofs.Block.perform.Goals as goal
 use Rattle.block.proofs.Block.perform.Goals.{In-Measure, In-Reset, In-Correct}
 
 good : (clean : CleanRun) (k : ℕ) → k < length clean.ops.now / 4 → allowed clean.m.d clean.n (operation_in clean k) ≡ true
 good clean k inside = clean.circuit.operations k (omega (arith, inside, op-count clean.m.d clean.n clean.ops.now))
+
+-- a code below 6 is a gate's, and from 6 up there is none
+pub returns-then-clean-k-lt6-clause-stepped : goal.returns-then-clean-k-lt6-clause-stepped
+returns-then-clean-k-lt6-clause-stepped c =
+    let clean = c.args.clean.now in
+    let inside = c.requires.at.inside in
+    gated (code-gate clean.m.d clean.n clean.ops.now c.args.k inside (good clean c.args.k inside) c.if-clean-k-lt6.true) c.perform.ensures.changed refl
+
+pub unreachable-requires : goal.unreachable-requires
+unreachable-requires c =
+    let clean = c.args.clean.now in
+    let inside = c.requires.at.inside in
+    let no_gate = rw (sym c.operation_of.ensures) at (code-no-gate clean.m.d clean.n clean.ops.now c.args.k inside (good clean c.args.k inside) c.if-clean-k-lt6.false) in
+    search rules
 
 pub operation_of-requires : goal.operation_of-requires
 operation_of-requires c = (c.requires.at.inside, good c.args.clean.now c.args.k c.requires.at.inside)
