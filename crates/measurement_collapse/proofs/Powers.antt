@@ -88,7 +88,7 @@ module _ (d n : ℕ) (pivot : List ℕ) where
       }
 
   -- one more
-  powers_more : (p : List (List ℕ)) (h : ℕ) (v : List ℕ) → PowersOf d n pivot p (h + 1) → h + 1 < length p → take (2 * n + 1) v ≡ power d n (h + 1) pivot
+  pub powers_more : (p : List (List ℕ)) (h : ℕ) (v : List ℕ) → PowersOf d n pivot p (h + 1) → h + 1 < length p → take (2 * n + 1) v ≡ power d n (h + 1) pivot
       → PowersOf d n pivot (set p (h + 1) v) (h + 1 + 1)
   powers_more p h v q l e =
       record {
